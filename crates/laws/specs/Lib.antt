@@ -1,0 +1,5 @@
+pub mod Checks
+pub mod First
+pub mod Lists
+pub mod Outcome
+pub mod Laws
