@@ -1,0 +1,44 @@
+// Exact arithmetic on values of 32 bits: how far one lies above another, and division rounded up.
+ghost use mathlib.Core.Path.{_≡_};
+ghost use Prim.Native.Nat.{_<_};
+ghost use lib.Signed.{leZ};
+ghost use Rattle.arith.specs.Gap.{gap, eqZ};
+ghost use Rattle.arith.specs.Ceil.{ceilDiv};
+
+// How far a lies above b, and 0 where it does not. The difference of two i32 can need 33 bits, so it is taken in i64.
+pub fn signed_gap(a: i32, b: i32) -> u64
+    ensures { λ r. ⌜ (r ≡ gap a b) × (r < 4294967296) ⌝ }
+{
+    let d = a as i64 - b as i64;
+    if d < 0 {
+        return 0;
+    }
+    d as u64
+}
+
+// d divided by step, rounded up; 0 where step is 0.
+pub fn ceil_div(d: u64, step: u32) -> u64
+    ensures { λ r. ⌜ r ≡ ceilDiv d step ⌝ }
+{
+    let s = step as u64;
+    if s == 0 {
+        return 0;
+    }
+    let q = d / s;
+    if d % s == 0 {
+        return q;
+    }
+    q + 1
+}
+
+pub fn at_most(a: i32, b: i32) -> bool
+    ensures { λ r. ⌜ r ≡ leZ a b ⌝ }
+{
+    a <= b
+}
+
+pub fn same(a: i32, b: i32) -> bool
+    ensures { λ r. ⌜ r ≡ eqZ a b ⌝ }
+{
+    a == b
+}
