@@ -1,0 +1,52 @@
+use mathlib.Core.Path.{sym, ap}
+use Rattle.constructor.specs.Level.{layeringOf}
+use borrow.Author.Needs.{needs}
+use Prim.Native.Nat.{_-_}
+use borrow.Author.Needs.{needs}
+use Rattle.constructor.proofs.layering_of.Statement.{statement}
+use Rattle.constructor.proofs.layering_of.Tie as tie
+
+enum-told : tie.Need-enum-told
+enum-told c = search needs
+
+enum-told-2 : tie.Need-enum-told-2
+enum-told-2 c = search needs
+
+enum-told-3 : tie.Need-enum-told-3
+enum-told-3 c = search needs
+
+enum-told-4 : tie.Need-enum-told-4
+enum-told-4 c = search needs
+
+enum-known-c : tie.Need-enum-known-c
+enum-known-c c = search needs
+
+returns : tie.Need-returns
+returns c = search needs
+
+returns-2 : tie.Need-returns-2
+returns-2 c = search needs
+
+returns-3 : tie.Need-returns-3
+returns-3 c = search needs
+
+returns-4 : tie.Need-returns-4
+returns-4 c = search needs
+
+returns-5 : tie.Need-returns-5
+returns-5 c = sym (ap layeringOf (c .before .c .given .1))
+
+pub layering-of-spec : {M : Type 1} → statement M
+layering-of-spec =
+    tie.close
+    (tie.spec
+    enum-told
+    enum-told-2
+    enum-told-3
+    enum-told-4
+    enum-known-c
+    returns
+    returns-2
+    returns-3
+    returns-4
+    returns-5)

@@ -1,0 +1,3 @@
+pub mod Greatest
+pub mod Papers
+pub mod Valid

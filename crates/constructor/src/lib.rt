@@ -1,0 +1,231 @@
+// Base preference constructors (000, section 3.1.1): what document 01 calls the five forms of a wish. Distance, level, greatest
+// level and the checks 6, 7 and 3 of one form. A sixth form is a case here and nowhere else.
+ghost use mathlib.Core.Path.{_≡_};
+ghost use Prim.Native.Nat.{max};
+ghost use Rattle.constructor.specs.Level.{distance, scaleOf, layeringOf, numericLevel, maxLevel, inside};
+ghost use Rattle.constructor.specs.Valid.{sound, constructorNumber, layerNumber};
+
+pub enum Constructor {
+    Lowest {
+        lo: i32,
+        hi: i32,
+        step: u32,
+    },
+    Highest {
+        lo: i32,
+        hi: i32,
+        step: u32,
+    },
+    Around {
+        lo: i32,
+        hi: i32,
+        step: u32,
+        z: i32,
+    },
+    Between {
+        lo: i32,
+        hi: i32,
+        step: u32,
+        low: i32,
+        up: i32,
+    },
+    Layered {
+        top: u8,
+        others: u8,
+    },
+}
+
+// The values that a form takes, lo to hi, and its step. LAYERED takes every value.
+pub struct Scale {
+    pub lo: i32,
+    pub hi: i32,
+    pub step: u32,
+}
+
+// What decides a level: the distance, or the layers of named values.
+pub enum Layering {
+    Numeric,
+    Layers { top: u8, others: u8 },
+}
+
+pub fn scale_of(c: Constructor) -> Scale
+    ensures { λ r. ⌜ r ≡ scaleOf c ⌝ }
+{
+    match c {
+        Constructor::Lowest { lo, hi, step } => Scale {
+            lo: lo,
+            hi: hi,
+            step: step,
+        },
+        Constructor::Highest { lo, hi, step } => Scale {
+            lo: lo,
+            hi: hi,
+            step: step,
+        },
+        Constructor::Around { lo, hi, step, z: _ } => Scale {
+            lo: lo,
+            hi: hi,
+            step: step,
+        },
+        Constructor::Between {
+            lo,
+            hi,
+            step,
+            low: _,
+            up: _,
+        } => Scale {
+            lo: lo,
+            hi: hi,
+            step: step,
+        },
+        Constructor::Layered { top: _, others: _ } => Scale {
+            lo: -2147483648,
+            hi: 2147483647,
+            step: 1,
+        },
+    }
+}
+
+pub fn layering_of(c: Constructor) -> Layering
+    ensures { λ r. ⌜ r ≡ layeringOf c ⌝ }
+{
+    match c {
+        Constructor::Lowest {
+            lo: _,
+            hi: _,
+            step: _,
+        } => Layering::Numeric,
+        Constructor::Highest {
+            lo: _,
+            hi: _,
+            step: _,
+        } => Layering::Numeric,
+        Constructor::Around {
+            lo: _,
+            hi: _,
+            step: _,
+            z: _,
+        } => Layering::Numeric,
+        Constructor::Between {
+            lo: _,
+            hi: _,
+            step: _,
+            low: _,
+            up: _,
+        } => Layering::Numeric,
+        Constructor::Layered { top, others } => Layering::Layers {
+            top: top,
+            others: others,
+        },
+    }
+}
+
+// How far v lies from what is wished for; 0 under LAYERED.
+fn distance_of(c: Constructor, v: i32) -> u64
+    ensures { λ r. ⌜ r ≡ distance c v ⌝ }
+{
+    match c {
+        Constructor::Lowest { lo, hi: _, step: _ } => arith::signed_gap(v, lo),
+        Constructor::Highest { lo: _, hi, step: _ } => arith::signed_gap(hi, v),
+        Constructor::Around {
+            lo: _,
+            hi: _,
+            step: _,
+            z,
+        } => arith::signed_gap(v, z) + arith::signed_gap(z, v),
+        Constructor::Between {
+            lo: _,
+            hi: _,
+            step: _,
+            low,
+            up,
+        } => arith::signed_gap(low, v) + arith::signed_gap(v, up),
+        Constructor::Layered { top: _, others: _ } => 0,
+    }
+}
+
+// The level of v under a form that goes by distance.
+pub fn level_of(c: Constructor, v: i32) -> u64
+    ensures { λ r. ⌜ r ≡ numericLevel c v ⌝ }
+{
+    let s = scale_of(c);
+    let step = s.step;
+    arith::ceil_div(distance_of(c, v), step)
+}
+
+fn larger(a: u64, b: u64) -> u64
+    ensures { λ r. ⌜ r ≡ max a b ⌝ }
+{
+    if a <= b { b } else { a }
+}
+
+// M: no value of lo..hi lies farther off than both ends, so one of the ends has the greatest level.
+pub fn max_level(c: Constructor) -> u64
+    ensures { λ r. ⌜ r ≡ maxLevel c ⌝ }
+{
+    let s = scale_of(c);
+    let lo = s.lo;
+    let hi = s.hi;
+    let y = layering_of(c);
+    match y {
+        Layering::Numeric => larger(level_of(c, lo), level_of(c, hi)),
+        Layering::Layers { top, others: _ } => top as u64,
+    }
+}
+
+pub fn is_inside(c: Constructor, v: i32) -> bool
+    ensures { λ r. ⌜ r ≡ inside c v ⌝ }
+{
+    let s = scale_of(c);
+    let lo = s.lo;
+    let hi = s.hi;
+    arith::at_most(lo, v) & arith::at_most(v, hi)
+}
+
+// No figure of the form is refused by 6.
+fn is_sound(c: Constructor) -> bool
+    ensures { λ r. ⌜ r ≡ sound c ⌝ }
+{
+    match c {
+        Constructor::Lowest { lo, hi, step } => arith::at_most(lo, hi) & (0 < step),
+        Constructor::Highest { lo, hi, step } => arith::at_most(lo, hi) & (0 < step),
+        Constructor::Around { lo, hi, step, z } => arith::at_most(lo, z)
+            & arith::at_most(z, hi)
+            & (0 < step),
+        Constructor::Between {
+            lo,
+            hi,
+            step,
+            low,
+            up,
+        } => arith::at_most(lo, low)
+            & arith::at_most(low, up)
+            & arith::at_most(up, hi)
+            & (0 < step),
+        Constructor::Layered { top, others } => (0 < top) & (top <= 15) & (others <= top),
+    }
+}
+
+// The number that the form is refused by, 6 or 7, or 0.
+pub fn number(c: Constructor) -> u8
+    ensures { λ r. ⌜ r ≡ constructorNumber c ⌝ }
+{
+    if !is_sound(c) {
+        return 6;
+    }
+    if 65535 < max_level(c) {
+        return 7;
+    }
+    0
+}
+
+// The number that a named value of this layer is refused by under the form: 3 where it has no layers, 6 above its top, or 0.
+pub fn layer_number(c: Constructor, layer: u8) -> u8
+    ensures { λ r. ⌜ r ≡ layerNumber c layer ⌝ }
+{
+    let y = layering_of(c);
+    match y {
+        Layering::Numeric => 3,
+        Layering::Layers { top, others: _ } => if top < layer { 6 } else { 0 },
+    }
+}
