@@ -1,0 +1,4 @@
+pub mod Valid
+pub mod Level
+pub mod Parts
+pub mod Counted

@@ -1,0 +1,133 @@
+-- "places past the counts .. are no part of the list": two lists with the same counts and the same counted places are refused
+-- alike, and have the same levels.
+use mathlib.Core.Path.{_≡_, refl, ap, _∙_}
+use Prim.Native.Nat.{ℕ, _-_, _<_, min}
+use native.Mathlib.Omega.{arith}
+use native.Mathlib.Nat.{lt-of-lt-of-le, min-le-left}
+use mathlib.Core.Bool.{Bool, true, false, cond, not, _&&_}
+use mathlib.Core.List.{List, [], _∷_}
+use lib.Dec.{ltb, leb, eqb}
+use lib.IntN.{ℤ}
+use borrow.Author.Tests.{leb-false, ltb-true}
+use Rattle.laws.specs.Checks.{_gives_, _then_}
+use Rattle.laws.specs.First.{firstAt}
+use Rattle.laws.specs.Laws.Joined.{joined-cong}
+use Rattle.laws.specs.Laws.First.{first-cong, any-cong, number-cong}
+use Rattle.arith.specs.Gap.{eqZ}
+use Rattle.constructor.specs.Level.{layeringOf, inside, maxLevel, numericLevel}
+use Rattle.constructor.specs.Valid.{layerNumber}
+use Rattle.constructor.specs.declared.Constructor.{Constructor}
+use Rattle.constructor.specs.declared.Layering.{Layering}
+use Rattle.constructor.specs.declared.Layering.the-variants.{Numeric, Layers}
+use Rattle.preference.specs.List.{preferenceAt, constructorAt, namedAt, places, names}
+use Rattle.preference.specs.Valid.{hasColumn, columnNumber, preferenceNumber, placeNumber, namedNumber, listNumber}
+use Rattle.preference.specs.Level.{isNamed, layerOf, levelUnder, levelAt, maxAt, valueNumber}
+use Rattle.preference.specs.Parts.{rowValue, levelParts, maxParts, levels, maxLevels, rowNumber}
+use Rattle.preference.specs.declared.Preference.{Preference}
+use Rattle.preference.specs.declared.Named.{Named}
+use Rattle.preference.specs.declared.PreferenceList.{PreferenceList}
+
+pub record Same (l m : PreferenceList) : Type 0 where
+  pub counts : l .count ≡ m .count
+  pub naming-counts : l .namings ≡ m .namings
+  pub places-same : (i : ℕ) → i < l .count → preferenceAt l i ≡ preferenceAt m i
+  pub named-same : (k : ℕ) → k < l .namings → namedAt l k ≡ namedAt m k
+
+module _ (l m : PreferenceList) (s : Same l m) where
+  constructor-same : (i : ℕ) → i < l .count → constructorAt l i ≡ constructorAt m i
+  constructor-same i h = ap (λ (p : Preference). p .constructor) (s .places-same i h)
+
+  -- ---- the list's number
+
+  column-same : (i column : ℕ) → i < l .count → columnNumber l i column ≡ columnNumber m i column
+  unfolding columnNumber
+  column-same i column h =
+      rw (any-cong (hasColumn l column) (hasColumn m column) (min i 8)
+      (λ j k. ap (λ (p : Preference). eqb (p .column) column) (s .places-same j (omega (arith, min-le-left i 8)))))
+
+  place-same : (i : ℕ) → i < l .count → placeNumber l i ≡ placeNumber m i
+  unfolding preferenceNumber
+  place-same i h = rw (s .places-same i h, column-same i (preferenceAt m i .column) h)
+
+  -- only a counted owner is looked at
+  owner-same : (n : Named) (x : ℕ) (t : Bool) → leb (l .count) (n .preference) ≡ t
+      → t gives 3 then x then layerNumber (constructorAt l (n .preference)) (n .layer)
+      ≡ t gives 3 then x then layerNumber (constructorAt m (n .preference)) (n .layer)
+  unfolding _gives_ _then_
+  owner-same n x true e = refl
+  owner-same n x false e = ap (λ (c : Constructor). x then layerNumber c (n .layer)) (constructor-same (n .preference) (leb-false (l .count) (n .preference) e))
+
+  named-number-same : (k : ℕ) → k < l .namings → namedNumber l k ≡ namedNumber m k
+  unfolding namedNumber
+  named-number-same k h =
+      rw (s .named-same k h, s .named-same (k - 1) (omega arith))
+      (owner-same (namedAt m k) (ltb (namedAt m k .preference) (namedAt m (k - 1) .preference) gives 3) (leb (l .count) (namedAt m k .preference)) refl
+      ∙ rw (s .counts))
+
+  pub number-same : listNumber l ≡ listNumber m
+  unfolding listNumber
+  number-same =
+      let p = number-cong (placeNumber l) (placeNumber m) (l .count) place-same in
+      let n = number-cong (namedNumber l) (namedNumber m) (l .namings) named-number-same in
+      rw (p, n, s .counts, s .naming-counts)
+
+  -- ---- levels
+
+  names-same : names l ≡ names m
+  names-same = rw (s .naming-counts)
+
+  held-name : (k : ℕ) → k < names l → namedAt l k ≡ namedAt m k
+  held-name k h = s .named-same k (lt-of-lt-of-le h (min-le-left (l .namings) 64))
+
+  layer-at-same : (k others : ℕ) (t : Bool) → ltb k (names l) ≡ t → cond t (namedAt l k .layer) others ≡ cond t (namedAt m k .layer) others
+  layer-at-same k others true e = ap (λ (n : Named). n .layer) (held-name k (ltb-true k (names l) e))
+  layer-at-same k others false e = refl
+
+  layer-same : (i : ℕ) (v : ℤ) (others : ℕ) → layerOf l i v others ≡ layerOf m i v others
+  unfolding layerOf
+  layer-same i v others =
+      let e = first-cong (isNamed l i v) (isNamed m i v) (names l) (λ k h. ap (λ (n : Named). eqb (n .preference) i && eqZ (n .value) v) (held-name k h)) in
+      let k = firstAt (isNamed m i v) (names l) in
+      rw e (layer-at-same k others (ltb k (names l)) refl ∙ rw names-same)
+
+  pub level-same : (i : ℕ) (v : ℤ) → i < l .count → levelAt l i v ≡ levelAt m i v
+  unfolding levelAt
+  level-same i v h =
+      ap (λ (c : Constructor). levelUnder l i v (layeringOf c)) (constructor-same i h) ∙ under (layeringOf (constructorAt m i))
+    where
+      under : (y : Layering) → levelUnder l i v y ≡ levelUnder m i v y
+      under Numeric = ap (λ (c : Constructor). numericLevel c v) (constructor-same i h)
+      under (Layers top others) = layer-same i v others
+
+  pub value-same : (i : ℕ) (v : ℤ) → i < l .count → valueNumber l i v ≡ valueNumber m i v
+  unfolding valueNumber
+  value-same i v h = ap (λ (c : Constructor). not (inside c v) gives 8) (constructor-same i h)
+
+  -- ---- runs
+
+  pub places-held : places l ≡ places m
+  places-held = rw (s .counts)
+
+  held-place : (i : ℕ) → i < places l → i < l .count
+  held-place i h = lt-of-lt-of-le h (min-le-left (l .count) 8)
+
+  row-value-same : (row : List ℤ) (i : ℕ) → i < l .count → rowValue l row i ≡ rowValue m row i
+  row-value-same row i h = rw (s .places-same i h)
+
+  pub levels-same : (row : List ℤ) → levels l row ≡ levels m row
+  unfolding levels
+  levels-same row =
+      joined-cong (levelParts l row) (levelParts m row) (places l)
+      (λ i h. rw (row-value-same row i (held-place i h), level-same i (rowValue m row i) (held-place i h)))
+      ∙ rw places-held
+
+  pub max-levels-same : maxLevels l ≡ maxLevels m
+  unfolding maxLevels maxAt
+  max-levels-same = joined-cong (maxParts l) (maxParts m) (places l) (λ i h. ap (λ (c : Constructor). maxLevel c ∷ []) (constructor-same i (held-place i h))) ∙ rw places-held
+
+  pub row-number-same : (row : List ℤ) → rowNumber l row ≡ rowNumber m row
+  unfolding rowNumber
+  row-number-same row =
+      number-cong (λ i. valueNumber l i (rowValue l row i)) (λ i. valueNumber m i (rowValue m row i)) (places l)
+      (λ i h. rw (row-value-same row i (held-place i h), value-same i (rowValue m row i) (held-place i h)))
+      ∙ rw places-held

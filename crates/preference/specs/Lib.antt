@@ -1,0 +1,5 @@
+pub mod List
+pub mod Valid
+pub mod Level
+pub mod Parts
+pub mod Laws

@@ -1,0 +1,34 @@
+-- What the engines know of a preference list: the level vector of a run and the greatest level of each of its parts
+-- (document 01: "The engines know a wish only by its level and its M"). A preference gives a list of parts, here of one.
+use Prim.Native.Nat.{ℕ}
+use mathlib.Core.List.{List, [], _∷_}
+use lib.IntN.{ℤ, pos}
+use lib.ListN.{getD}
+use Rattle.laws.specs.First.{firstNumber}
+use Rattle.laws.specs.Lists.{joined}
+use Rattle.preference.specs.List.{preferenceAt, places}
+use Rattle.preference.specs.Level.{levelAt, maxAt, valueNumber}
+use Rattle.preference.specs.declared.PreferenceList.{PreferenceList}
+
+-- the value of a run in the column of the preference at place i; values past the run's end read as 0
+abbrev pub rowValue : PreferenceList → List ℤ → ℕ → ℤ
+rowValue l row i = getD row (preferenceAt l i .column) (pos 0)
+
+-- the parts of a level under the preference at place i, and their greatest levels
+abbrev pub levelParts : PreferenceList → List ℤ → ℕ → List ℕ
+levelParts l row i = levelAt l i (rowValue l row i) ∷ []
+
+abbrev pub maxParts : PreferenceList → ℕ → List ℕ
+maxParts l i = maxAt l i ∷ []
+
+-- the level vector of a run, preference by preference
+unfoldable pub levels : PreferenceList → List ℤ → List ℕ
+levels l row = joined (levelParts l row) (places l)
+
+-- the greatest level of each part of a level vector
+unfoldable pub maxLevels : PreferenceList → List ℕ
+maxLevels l = joined (maxParts l) (places l)
+
+-- 8 for a run: one of its values lies outside the bounds of its preference
+unfoldable pub rowNumber : PreferenceList → List ℤ → ℕ
+rowNumber l row = firstNumber (λ i. valueNumber l i (rowValue l row i)) (places l)
