@@ -1,0 +1,11 @@
+pub mod Kinds
+pub mod Pigeons
+pub mod Columns
+pub mod Lengths
+pub mod Read
+pub mod Values
+pub mod Accepted
+pub mod Empty
+pub mod Ninth
+pub mod Longest
+pub mod Examples

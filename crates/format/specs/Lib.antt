@@ -1,0 +1,4 @@
+pub mod Kinds
+pub mod Read
+pub mod Write
+pub mod Laws
