@@ -1,0 +1,90 @@
+use mathlib.Core.Path.{refl, ap, _∙_, _≡_}
+use mathlib.Core.List.{List}
+use lib.ListN.{drop, length}
+use lib.Seq.{sets}
+use lib.IntN.{ℤ}
+use denote.Ref.{now}
+use Rattle.format.specs.Kinds.{classOf, bodyOf}
+use Rattle.format.specs.Read.{valuesUnder}
+use Rattle.reader.proofs.Part.{part}
+use Rattle.reader.proofs.Stored.{Stored, stored-none, stored-more, stored-all}
+use borrow.Author.Needs.{needs}
+use native.Mathlib.Omega.{arith}
+use Prim.Native.Nat.{ℕ, _-_, _+_}
+use Rattle.reader.proofs.put_runs.Statement.{statement}
+use Rattle.reader.proofs.put_runs.Tie as tie
+
+abbrev Inv-loop : tie.InvT-loop
+Inv-loop s log₀ n at₀ to₀ log at to = (n ≡ length s) × Stored s log₀ log at to
+
+abbrev μ-loop : tie.MeasureT-loop
+μ-loop s log₀ n at₀ to₀ log at to = length s - at
+
+abbrev stored : List ℕ → List ℤ
+stored t = valuesUnder (classOf t) t
+
+loop-holds : tie.Need-loop-holds Inv-loop μ-loop
+loop-holds c = (refl, stored-none (now (c .before .args .s)) (now (c .before .args .log)))
+
+sub-t : tie.Need-sub-t Inv-loop μ-loop
+sub-t c = omega arith
+
+part-t-start : tie.Need-part-t-start Inv-loop μ-loop
+part-t-start c = omega arith
+
+part-t-end : tie.Need-part-t-end Inv-loop μ-loop
+part-t-end c = omega arith
+
+put-record-requires : tie.Need-put-record-requires Inv-loop μ-loop
+put-record-requires c κs = omega (arith, c .before .before .before .loop .inv .1 .behind)
+
+body-of-requires : tie.Need-body-of-requires Inv-loop μ-loop
+body-of-requires c κs = search needs
+
+add-at : tie.Need-add-at Inv-loop μ-loop
+add-at c = omega (arith, c .body-of .ensures .1)
+
+add-at-2 : tie.Need-add-at-2 Inv-loop μ-loop
+add-at-2 c = omega (arith, c .body-of .ensures .1)
+
+loop-less : tie.Need-loop-less Inv-loop μ-loop
+loop-less c = omega (arith, c .body-of .ensures .1)
+
+loop-again : tie.Need-loop-again Inv-loop μ-loop
+loop-again c =
+    let s = now (c .before .before .before .before .before .before .before .before .args .s) in
+    let l = c .before .before .before .before .before .before .loop in
+    let p = c .before .before .put-record in
+    let e = part s (l .at) in
+    let to : p .result ≡ l .to + length (stored (drop (l .at) s)) = p .ensures .0 ∙ ap (λ (t : List ℕ). l .to + length (stored t)) e in
+    let log : p .last .1 .0 ≡ sets (l .log) (l .to) (stored (drop (l .at) s)) = p .ensures .1 ∙ ap (λ (t : List ℕ). sets (l .log) (l .to) (stored t)) e in
+    let b : c .body-of .result ≡ bodyOf (drop (l .at) s) = c .body-of .ensures .0 ∙ ap bodyOf e in
+    (refl, rw (log, to, b) (stored-more s _ (l .log) (l .at) (l .to) (c .before .before .before .before .before .loop-test .taken) (l .inv .1)))
+
+same-length : tie.Need-same-length Inv-loop μ-loop
+same-length c = c .before .loop .inv .1 .same
+
+returns : tie.Need-returns Inv-loop μ-loop
+returns c =
+    let a = c .before .before .before .args in
+    let l = c .before .loop in
+    stored-all (now (a .s)) (now (a .log)) (l .log) (l .at) (l .to) (c .loop-test .left) (l .inv .1)
+
+pub put-runs-spec : {M : Type 1} → statement M
+put-runs-spec =
+    tie.close
+    (tie.spec
+    Inv-loop
+    μ-loop
+    loop-holds
+    sub-t
+    part-t-start
+    part-t-end
+    put-record-requires
+    body-of-requires
+    add-at
+    add-at-2
+    loop-less
+    loop-again
+    same-length
+    returns)

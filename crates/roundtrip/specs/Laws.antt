@@ -1,0 +1,10 @@
+pub mod Checks
+pub mod Added
+pub mod Codec
+pub mod Reads
+pub mod Part
+pub mod ReadBack
+pub mod Stream
+pub mod WriteBack
+pub mod Calls
+pub mod Longest

@@ -1,0 +1,3 @@
+pub mod Terms
+pub mod Laws
+pub mod Theorems

@@ -1,0 +1,258 @@
+// Writing of a preference list and a log as a stream. Stores past the output's end do nothing, so that the room is one check.
+use constructor::Constructor;
+use format::WriteAnswer;
+use preference::Named;
+use preference::Preference;
+use preference::PreferenceList;
+ghost use mathlib.Core.Path.{_≡_};
+ghost use mathlib.Core.List.{_++_};
+ghost use Prim.Native.Nat.{_+_, _*_, _<_, _≤_, _^_};
+ghost use lib.ListN.{length};
+ghost use Rattle.word.specs.Word.{wordBytes, intBytes};
+ghost use Rattle.runs.specs.Log.{rowCount, logNumber};
+ghost use Rattle.laws.specs.Outcome.{outcome};
+ghost use Rattle.laws.specs.Lists.{joined};
+ghost use Rattle.preference.specs.Valid.{listNumber};
+ghost use Rattle.format.specs.Write.{kindFor, constructorBytes, preferenceBytes, namedBytes, intsBytes, runBytes, namedBytesOf, preferencePart, rowBytes};
+ghost use Rattle.format.specs.Write.{streamOf, writeNumber, outAfter, outcomeOf};
+ghost use Rattle.writer.specs.Puts.{Puts};
+
+// ---- one record. Each of these stores bytes at a place and gives the place after them.
+
+fn put_range(out: &mut [u8], at: usize, lo: i32, hi: i32, step: u32) -> usize
+    requires { ⌜ at + 12 < 2 ^ 64 ⌝ }
+    ensures { λ r. ⌜ Puts (now (out .entry)) (now (out .exit)) at r (intBytes lo ++ intBytes hi ++ wordBytes step) ⌝ }
+{
+    word::put_i32(out, at, lo);
+    word::put_i32(out, at + 4, hi);
+    word::put_u32(out, at + 8, step);
+    at + 12
+}
+
+fn put_constructor(out: &mut [u8], at: usize, c: Constructor) -> usize
+    requires { ⌜ at + 20 < 2 ^ 64 ⌝ }
+    ensures { λ r. ⌜ Puts (now (out .entry)) (now (out .exit)) at r (constructorBytes c) ⌝ }
+{
+    match c {
+        Constructor::Lowest { lo, hi, step } => put_range(out, at, lo, hi, step),
+        Constructor::Highest { lo, hi, step } => put_range(out, at, lo, hi, step),
+        Constructor::Around { lo, hi, step, z } => {
+            let next = put_range(out, at, lo, hi, step);
+            word::put_i32(out, next, z);
+            next + 4
+        }
+        Constructor::Between {
+            lo,
+            hi,
+            step,
+            low,
+            up,
+        } => {
+            let next = put_range(out, at, lo, hi, step);
+            word::put_i32(out, next, low);
+            word::put_i32(out, next + 4, up);
+            next + 8
+        }
+        Constructor::Layered { top, others } => {
+            word::put_u8(out, at, top);
+            word::put_u8(out, at + 1, others);
+            at + 2
+        }
+    }
+}
+
+// The kind of a form's record.
+fn kind_for(c: Constructor) -> u8
+    ensures { λ r. ⌜ r ≡ kindFor c ⌝ }
+{
+    match c {
+        Constructor::Lowest {
+            lo: _,
+            hi: _,
+            step: _,
+        } => 1,
+        Constructor::Highest {
+            lo: _,
+            hi: _,
+            step: _,
+        } => 2,
+        Constructor::Around {
+            lo: _,
+            hi: _,
+            step: _,
+            z: _,
+        } => 3,
+        Constructor::Between {
+            lo: _,
+            hi: _,
+            step: _,
+            low: _,
+            up: _,
+        } => 4,
+        Constructor::Layered { top: _, others: _ } => 5,
+    }
+}
+
+fn put_preference(out: &mut [u8], at: usize, p: Preference) -> usize
+    requires { ⌜ at + 22 < 2 ^ 64 ⌝ }
+    ensures { λ r. ⌜ Puts (now (out .entry)) (now (out .exit)) at r (preferenceBytes p) ⌝ }
+{
+    let c = p.constructor;
+    word::put_u8(out, at, kind_for(c));
+    word::put_u8(out, at + 1, p.column);
+    put_constructor(out, at + 2, c)
+}
+
+fn put_named(out: &mut [u8], at: usize, e: Named) -> usize
+    requires { ⌜ at + 6 < 2 ^ 64 ⌝ }
+    ensures { λ r. ⌜ Puts (now (out .entry)) (now (out .exit)) at r (namedBytes e) ⌝ }
+{
+    word::put_u8(out, at, 6);
+    word::put_i32(out, at + 1, e.value);
+    word::put_u8(out, at + 5, e.layer);
+    at + 6
+}
+
+// The numbers of a row.
+fn put_ints(out: &mut [u8], at: usize, row: &[i32]) -> usize
+    requires { ⌜ at + 4 * length (now row) < 2 ^ 64 ⌝ }
+    ensures { λ r. ⌜ Puts (now (out .entry)) (now (out .exit)) at r (intsBytes (now (row .entry))) ⌝ }
+{
+    let mut next = at;
+    let mut j: usize = 0;
+    while j < row.len() {
+        word::put_i32(out, next, row[j]);
+        next += 4;
+        j += 1;
+    }
+    next
+}
+
+fn put_run(out: &mut [u8], at: usize, row: &[i32]) -> usize
+    requires { ⌜ at + 1 + 4 * length (now row) < 2 ^ 64 ⌝ }
+    ensures { λ r. ⌜ Puts (now (out .entry)) (now (out .exit)) at r (runBytes (now (row .entry))) ⌝ }
+{
+    word::put_u8(out, at, 7);
+    put_ints(out, at + 1, row)
+}
+
+// ---- the stream
+
+fn wide(x: u8) -> usize
+    ensures { λ r. ⌜ r ≡ x ⌝ }
+{
+    x as usize
+}
+
+// The named value at place k, where it belongs to the preference at place i.
+fn put_named_of(out: &mut [u8], at: usize, list: PreferenceList, i: usize, k: usize) -> usize
+    requires { ⌜ (at + 6 < 2 ^ 64) × (k < 64) ⌝ }
+    ensures { λ r. ⌜ Puts (now (out .entry)) (now (out .exit)) at r (namedBytesOf list i k) ⌝ }
+{
+    let e = list.named[k];
+    let owner = e.preference;
+    if wide(owner) != i {
+        return at;
+    }
+    put_named(out, at, e)
+}
+
+// The named values of the preference at place i.
+fn put_names_of(out: &mut [u8], at: usize, list: PreferenceList, i: usize) -> usize
+    requires { ⌜ (at + 384 < 2 ^ 64) × (list .namings ≤ 64) ⌝ }
+    ensures { λ r. ⌜ Puts (now (out .entry)) (now (out .exit)) at r (joined (namedBytesOf list i) (list .namings)) ⌝ }
+{
+    let n = list.namings as usize;
+    let mut next = at;
+    let mut k: usize = 0;
+    while k < n {
+        next = put_named_of(out, next, list, i, k);
+        k += 1;
+    }
+    next
+}
+
+// The preference at place i, and its named values.
+fn put_part(out: &mut [u8], at: usize, list: PreferenceList, i: usize) -> usize
+    requires { ⌜ (at + 406 < 2 ^ 64) × (list .namings ≤ 64) × (i < 8) ⌝ }
+    ensures { λ r. ⌜ Puts (now (out .entry)) (now (out .exit)) at r (preferencePart list i) ⌝ }
+{
+    let p = list.preferences[i];
+    let next = put_preference(out, at, p);
+    put_names_of(out, next, list, i)
+}
+
+fn put_preferences(out: &mut [u8], list: PreferenceList) -> usize
+    requires { ⌜ (list .count ≤ 8) × (list .namings ≤ 64) ⌝ }
+    ensures { λ r. ⌜ Puts (now (out .entry)) (now (out .exit)) 0 r (joined (preferencePart list) (list .count)) ⌝ }
+{
+    let n = list.count as usize;
+    let mut next: usize = 0;
+    let mut i: usize = 0;
+    while i < n {
+        next = put_part(out, next, list, i);
+        i += 1;
+    }
+    next
+}
+
+// Row r of the log.
+fn put_row(out: &mut [u8], at: usize, log: &[i32], r: usize) -> usize
+    requires { ⌜ (at + 33 < 2 ^ 64) × (r < rowCount (now log)) ⌝ }
+    ensures { λ next. ⌜ Puts (now (out .entry)) (now (out .exit)) at next (rowBytes (now (log .entry)) r) ⌝ }
+{
+    let from = 8 * r;
+    let to = from + 8;
+    put_run(out, at, &log[from..to])
+}
+
+fn put_runs(out: &mut [u8], at: usize, log: &[i32]) -> usize
+    requires { ⌜ (at ≤ 4096) × (length (now log) ≤ 8192) ⌝ }
+    ensures { λ r. ⌜ Puts (now (out .entry)) (now (out .exit)) at r (joined (rowBytes (now (log .entry))) (rowCount (now (log .entry)))) ⌝ }
+{
+    let rows = log.len() / 8;
+    let mut next = at;
+    let mut r: usize = 0;
+    while r < rows {
+        next = put_row(out, next, log, r);
+        r += 1;
+    }
+    next
+}
+
+fn put_stream(out: &mut [u8], list: PreferenceList, log: &[i32]) -> usize
+    requires { ⌜ (listNumber list ≡ 0) × (logNumber (now log) ≡ 0) ⌝ }
+    ensures { λ r. ⌜ Puts (now (out .entry)) (now (out .exit)) 0 r (streamOf list (now (log .entry))) ⌝ }
+{
+    let at = put_preferences(out, list);
+    put_runs(out, at, log)
+}
+
+// The length of the stream: where it ends when it is stored where there is no room.
+fn stream_length(list: PreferenceList, log: &[i32]) -> usize
+    requires { ⌜ (listNumber list ≡ 0) × (logNumber (now log) ≡ 0) ⌝ }
+    ensures { λ r. ⌜ r ≡ length (streamOf list (now (log .entry))) ⌝ }
+{
+    let mut scratch: [u8; 1] = [0; 1];
+    put_stream(&mut scratch, list, log)
+}
+
+// Writes the stream of a list and a log. Nothing is stored before every check has passed.
+pub fn write(list: PreferenceList, log: &[i32], out: &mut [u8]) -> WriteAnswer
+    ensures { λ r. ⌜ (outcomeOf r ≡ outcome (writeNumber list (now (log .entry)) (length (now (out .entry)))) (length (streamOf list (now (log .entry))))) × (now (out .exit) ≡ outAfter list (now (log .entry)) (now (out .entry))) ⌝ }
+{
+    let list_number = preference::number(list);
+    if list_number != 0 {
+        return WriteAnswer::Refused(list_number);
+    }
+    let log_number = runs::number(log);
+    if log_number != 0 {
+        return WriteAnswer::Refused(log_number);
+    }
+    let length = stream_length(list, log);
+    if out.len() < length {
+        return WriteAnswer::Refused(10);
+    }
+    put_stream(out, list, log);
+    WriteAnswer::Written(length)
+}
