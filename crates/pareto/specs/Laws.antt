@@ -1,0 +1,3 @@
+pub mod Dominance
+pub mod Best
+pub mod Table

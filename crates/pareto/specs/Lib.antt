@@ -1,0 +1,5 @@
+pub mod Dominance
+pub mod Best
+pub mod Checked
+pub mod Table
+pub mod Laws

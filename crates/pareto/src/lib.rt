@@ -1,0 +1,131 @@
+// Dominance, best matches and marks (specs/), and what engines know of a list and a log: its checks, and its level table.
+use preference::PreferenceList;
+ghost use mathlib.Core.Path.{_≡_};
+ghost use Prim.Native.Nat.{_+_, _*_, _/_, _<_, _≤_};
+ghost use mathlib.Core.Bool.{Bool};
+ghost use lib.ListN.{length, set};
+ghost use lib.Seq.{sets};
+ghost use Rattle.laws.specs.First.{anyBelow};
+ghost use Rattle.runs.specs.Log.{rowAt};
+ghost use Rattle.preference.specs.Parts.{rowNumber};
+ghost use Rattle.pareto.specs.Checked.{rowsNumber, checkedNumber};
+ghost use Rattle.pareto.specs.Table.{tableEntry, tableOf, lower, relation, compared};
+
+// 8 or 0 of one row, handed on as the part of the log that begins at 8 × its number.
+fn row_at_number(list: PreferenceList, log: &[i32], r: usize) -> u8
+    requires { ⌜ 8 * r + 8 ≤ length (now log) ⌝ }
+    ensures { λ k. ⌜ k ≡ rowNumber list (rowAt (now (log .entry)) r) ⌝ }
+{
+    let start = 8 * r;
+    let end = start + 8;
+    preference::row_number(list, &log[start..end])
+}
+
+// 8 where a value of a row lies outside the bounds of its wish, or 0.
+pub fn rows_number(list: PreferenceList, log: &[i32]) -> u8
+    ensures { λ k. ⌜ k ≡ rowsNumber list (now (log .entry)) ⌝ }
+{
+    let n = log.len() / 8;
+    let mut r: usize = 0;
+    while r < n {
+        let k = row_at_number(list, log, r);
+        if k != 0 {
+            return k;
+        }
+        r += 1;
+    }
+    0
+}
+
+// The checks that engines share: the list, the log, the number of what a call adds under 10, then 8.
+pub fn checked_number(list: PreferenceList, log: &[i32], more: u8) -> u8
+    ensures { λ k. ⌜ k ≡ checkedNumber list (now (log .entry)) more ⌝ }
+{
+    let of_list = preference::number(list);
+    if of_list != 0 {
+        return of_list;
+    }
+    let of_log = runs::number(log);
+    if of_log != 0 {
+        return of_log;
+    }
+    if more != 0 {
+        return more;
+    }
+    rows_number(list, log)
+}
+
+// ---- the level table
+
+// Place i of the level table: a part of the level vector of a row, which is handed on as a part of the log.
+fn table_entry(list: PreferenceList, log: &[i32], i: usize) -> u16
+    requires { ⌜ 8 * (i / 8) + 8 ≤ length (now log) ⌝ }
+    ensures { λ n. ⌜ n ≡ tableEntry list (now (log .entry)) i ⌝ }
+{
+    let start = i / 8 * 8;
+    let end = start + 8;
+    let n = preference::part_level(list, &log[start..end], i % 8);
+    (n % 65536) as u16
+}
+
+// A store past the end does nothing.
+fn store(table: &mut [u16], at: usize, n: u16)
+    ensures { λ _. ⌜ now (table .exit) ≡ set (now (table .entry)) at n ⌝ }
+{
+    if at < table.len() {
+        table[at] = n;
+    }
+}
+
+// Fills the front of a table with the levels of a log.
+pub fn fill_table(list: PreferenceList, log: &[i32], table: &mut [u16])
+    ensures { λ _. ⌜ now (table .exit) ≡ sets (now (table .entry)) 0 (tableOf list (now (log .entry))) ⌝ }
+{
+    let n = log.len() / 8 * 8;
+    let mut i: usize = 0;
+    while i < n {
+        store(table, i, table_entry(list, log, i));
+        i += 1;
+    }
+}
+
+fn relation_of(first: bool, second: bool) -> u8
+    ensures { λ r. ⌜ r ≡ relation first second ⌝ }
+{
+    if first {
+        return if second { 0 } else { 1 };
+    }
+    if second { 2 } else { 0 }
+}
+
+// Two rows of a table that begin at p and q. One look at each level tells both ways.
+fn rows_compared(table: &[u16], p: usize, q: usize) -> u8
+    requires { ⌜ (p + 8 ≤ length (now table)) × (q + 8 ≤ length (now table)) ⌝ }
+    ensures { λ r. ⌜ r ≡ relation (anyBelow (lower (now (table .entry)) p q) 8) (anyBelow (lower (now (table .entry)) q p) 8) ⌝ }
+{
+    let mut first = false;
+    let mut second = false;
+    let mut k: usize = 0;
+    while k < 8 {
+        let x = table[p + k];
+        let y = table[q + k];
+        first = first | (x < y);
+        second = second | (y < x);
+        k += 1;
+    }
+    relation_of(first, second)
+}
+
+// How rows a and b of a table stand: 1 where a dominates, 2 where b does, else 0.
+pub fn compare(table: &[u16], a: usize, b: usize) -> u8
+    ensures { λ r. ⌜ r ≡ compared (now (table .entry)) a b ⌝ }
+{
+    let n = table.len() / 8;
+    if n <= a {
+        return 0;
+    }
+    if n <= b {
+        return 0;
+    }
+    rows_compared(table, 8 * a, 8 * b)
+}
