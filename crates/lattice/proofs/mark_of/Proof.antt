@@ -1,0 +1,25 @@
+use borrow.Author.Tests.{eq-eqb, ne-eqb}
+use lib.ListN.{List·getD-eq-default}
+use Rattle.nodes.specs.Steps.{byteMark}
+use borrow.Author.Needs.{needs}
+use Prim.Native.Nat.{_-_}
+use Rattle.lattice.proofs.mark_of.Statement.{statement}
+use Rattle.lattice.proofs.mark_of.Tie as tie
+
+shared-slice-read-if2 : tie.Need-shared-slice-read-if2
+shared-slice-read-if2 c = search needs
+
+returns : tie.Need-returns
+unfolding byteMark
+returns c = rw (eq-eqb _ _ (c .if2 .taken))
+
+returns-2 : tie.Need-returns-2
+unfolding byteMark
+returns-2 c = rw (ne-eqb _ _ (c .if2 .left))
+
+returns-3 : tie.Need-returns-3
+unfolding byteMark
+returns-3 c = rw (List·getD-eq-default (c .before .args .nodes .now) 0 (c .if1 .left))
+
+pub mark-of-spec : {M : Type 1} → statement M
+mark-of-spec = tie.close (tie.spec shared-slice-read-if2 returns returns-2 returns-3)

@@ -1,0 +1,93 @@
+use mathlib.Core.Path.{_≡_, sym, ap, _∙_}
+use mathlib.Core.Bool.{Bool}
+use mathlib.Core.List.{List, _++_}
+use Prim.Native.Nat.{ℕ, _≤_}
+use native.Mathlib.Omega.{arith}
+use borrow.Author.Needs.{needs}
+use lib.ListN.{length, take, drop, replicate, length-append, length-replicate}
+use lib.Seq.{length-take-le, take-at}
+use Rattle.runs.specs.Laws.Log.{accepted}
+use Rattle.preference.specs.Parts.{maxLevels}
+use Rattle.lattice.specs.Progress.{Settles}
+use Rattle.lattice.proofs.walk_rows.Statement.{statement}
+use Rattle.lattice.proofs.walk_rows.Tie as tie
+
+abbrev zeros : List ℕ
+zeros = replicate 1024 0
+
+abbrev rows : tie.Start → ℕ
+rows s = length (s .args .marks .now)
+
+few : (s : tie.Start) → rows s ≤ 1024
+few s = omega (arith, accepted (s .args .log .now) (s .pre .1 .0) .few)
+
+front : (s : tie.Start) → length (take (rows s) zeros) ≡ rows s
+front s = length-take-le (rows s) zeros (omega (arith, few s, length-replicate {A = ℕ} 1024 0))
+
+-- the node numbers
+abbrev numbers : tie.After-fill-numbers → List ℕ
+numbers f = f .fill-numbers .last .1 .1 .1 .0
+
+abbrev start : tie.After-fill-numbers → tie.Start
+start f = f .before .before .before .before .before
+
+numbers-long : (f : tie.After-fill-numbers) → length (numbers f) ≡ rows (start f)
+numbers-long f = f .fill-numbers .kept .1 .1 .1 .0 ∙ front (start f)
+
+numbers-front : (f : tie.After-fill-numbers) → take (rows (start f)) (numbers f ++ drop (rows (start f)) zeros) ≡ numbers f
+numbers-front f = take-at (numbers f) (drop (rows (start f)) zeros) (rows (start f)) (numbers-long f)
+
+-- what the engine promises, told of what its arguments are
+told : (w w′ x x′ : List ℕ) (n n′ budget : ℕ) (marks : List ℕ) (ok : Bool) (made : ℕ) (marks′ nodes′ : List ℕ) → w ≡ w′ → x ≡ x′ → n ≡ n′
+    → Settles w x n budget marks ok made marks′ nodes′ → Settles w′ x′ n′ budget marks ok made marks′ nodes′
+told w w′ x x′ n n′ budget marks ok made marks′ nodes′ p q r s = rw (p, q, r) at s
+
+array-borrow-prefix-numbers : tie.Need-array-borrow-prefix-numbers
+array-borrow-prefix-numbers c = few (c .before .before .before)
+
+slice-aggregate-fill-numbers : tie.Need-slice-aggregate-fill-numbers
+slice-aggregate-fill-numbers c = sym (front (c .before .before .before .before))
+
+fill-numbers-requires : tie.Need-fill-numbers-requires
+fill-numbers-requires c κs =
+    let s = c .before .before .before .before in
+    (s .pre .0, (s .pre .1 .1 .0, front s ∙ s .pre .1 .1 .1 .1))
+
+array-share-prefix-numbers : tie.Need-array-share-prefix-numbers
+array-share-prefix-numbers c = rw (length-append (numbers (c .before))) (omega (arith, numbers-long (c .before)))
+
+slice-aggregate-settle : tie.Need-slice-aggregate-settle
+slice-aggregate-settle c = sym (ap length (numbers-front (c .before .before)) ∙ numbers-long (c .before .before))
+
+settle-requires : tie.Need-settle-requires
+settle-requires c κs =
+    let f = c .before .before .before .before in
+    let s = start f in
+    (record { tops = maxLevels (s .args .list); weights-are = s .pre .0 .weights-are; count-is = s .pre .1 .1 .1 .0 }, rw (numbers-front f) (sym (numbers-long f)))
+
+same-length : tie.Need-same-length
+same-length c = search needs
+
+same-length-2 : tie.Need-same-length-2
+same-length-2 c = search needs
+
+returns : tie.Need-returns
+returns c =
+    let k = c .before .before .before .before in
+    let f = k .before .before .before .before .before in
+    let s = start f in
+    told _ _ _ _ _ _ _ _ _ _ _ _ (s .pre .0 .weights-are) (numbers-front f ∙ f .fill-numbers .ensures) (s .pre .1 .1 .1 .0) (k .settle .ensures)
+
+pub walk-rows-spec : {M : Type 1} → statement M
+walk-rows-spec =
+    tie.close
+    (tie.spec
+    array-borrow-prefix-numbers
+    slice-aggregate-fill-numbers
+    fill-numbers-requires
+    array-share-prefix-numbers
+    slice-aggregate-settle
+    settle-requires
+    same-length
+    same-length-2
+    returns)

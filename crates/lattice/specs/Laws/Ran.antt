@@ -1,0 +1,132 @@
+-- What a call comes to, check by check, and from what the walk on weights and node numbers promises.
+use mathlib.Core.Path.{_≡_, refl, sym, ap, _∙_}
+use Prim.Native.Nat.{ℕ, _<_, _≤_}
+use native.Mathlib.Nat.{le-refl}
+use native.Mathlib.Omega.{arith}
+use mathlib.Core.Bool.{Bool, true, false}
+use mathlib.Core.List.{List, _++_}
+use lib.Dec.{ltb, leb}
+use lib.IntN.{ℤ}
+use lib.ListN.{length, take, drop, take-append-drop}
+use borrow.Author.Tests.{lt-ltb, le-ltb, ltb-false, leb-true, leb-false, ne-eqb}
+use Rattle.laws.specs.Checks.{_gives_, _then_}
+use Rattle.laws.specs.Outcome.{outcome}
+use Rattle.laws.specs.Lists.{joined}
+use Rattle.laws.specs.Laws.Checks.{then-none, gives-none, gives-yes, gives-no}
+use Rattle.laws.specs.Laws.Outcome.{outcome-refused}
+use Rattle.runs.specs.Log.{rowCount, logNumber}
+use Rattle.preference.specs.Valid.{listNumber}
+use Rattle.preference.specs.Parts.{maxLevels}
+use Rattle.preference.specs.Laws.Parts.{Within}
+use Rattle.preference.specs.declared.PreferenceList.{PreferenceList}
+use Rattle.pareto.specs.Best.{vectors, marksOf, marksAfter}
+use Rattle.pareto.specs.Checked.{rowsNumber, marksNumber, checkedNumber}
+use Rattle.nodes.specs.Lattice.{nodeCount, crossedAt, crossings, nodeBytes}
+use Rattle.nodes.specs.Steps.{weightsOf}
+use Rattle.nodes.specs.Laws.Some.{All}
+use Rattle.nodes.specs.Laws.Walk.{trail-crossed, bytes-final}
+use Rattle.lattice.specs.Engine.{latticeNumber, marksLeft, nodesLeft, Ran}
+use Rattle.lattice.specs.Progress.{rowNodes, crossed, Settles}
+use Rattle.lattice.specs.Laws.Rows.{rows-hold, vectors-within, rows-marked}
+use Rattle.lattice.specs.declared.LatticeAnswer.the-variants.{Crossed, Refused}
+
+-- what the checks up to 8 say
+pub record Passed (l : PreferenceList) (log : List ℤ) (marks : ℕ) : Type 0 where
+  pub list-accepted : listNumber l ≡ 0
+  pub log-accepted : logNumber log ≡ 0
+  pub marks-fit : rowCount log ≤ marks
+  pub rows-accepted : rowsNumber l log ≡ 0
+
+pub passed : (l : PreferenceList) (log : List ℤ) (marks : ℕ) → checkedNumber l log (marksNumber log marks) ≡ 0 → Passed l log marks
+unfolding checkedNumber
+passed l log marks z =
+    let a = then-none (listNumber l) _ z in
+    let b = then-none (logNumber log) _ (a .1) in
+    let d = then-none (marksNumber log marks) _ (b .1) in
+    record {
+      list-accepted = a .0;
+      log-accepted = b .0;
+      marks-fit = ltb-false marks (rowCount log) (gives-none (ltb marks (rowCount log)) 9 (d .0));
+      rows-accepted = d .1;
+    }
+
+module _ (l : PreferenceList) (log : List ℤ) (marks nodes : List ℕ) (budget : ℕ) where
+  -- a call that is refused by a number below 11
+  pub refused-by : (k : ℕ) → latticeNumber l log (length marks) (length nodes) budget ≡ k → (k ≡ 0 → ⊥) → k < 11 → Ran l log marks nodes budget (Refused k) marks nodes
+  unfolding marksLeft nodesLeft
+  refused-by k e z h =
+      record {
+        ends = rw e (sym (outcome-refused k _ z));
+        marks-are = rw (e, ne-eqb k 0 z);
+        nodes-are = rw (e, ne-eqb k 0 z, ne-eqb k 11 (λ q. let w : ⊥ = omega arith in absurd w));
+      }
+
+  module _ (z : checkedNumber l log (marksNumber log (length marks)) ≡ 0) where
+    pub too-many : 32768 < nodeCount (maxLevels l) → Ran l log marks nodes budget (Refused 9) marks nodes
+    too-many h = refused-by 9 (unfold latticeNumber _gives_ _then_ in rw (z, lt-ltb 32768 (nodeCount (maxLevels l)) h)) (λ e. let w : ⊥ = omega arith in absurd w) (omega arith)
+
+    module _ (few : nodeCount (maxLevels l) ≤ 32768) where
+      pub too-short : length nodes < nodeCount (maxLevels l) → Ran l log marks nodes budget (Refused 10) marks nodes
+      too-short h =
+          refused-by 10 (unfold latticeNumber _gives_ _then_ in rw (z, le-ltb 32768 (nodeCount (maxLevels l)) few, lt-ltb (length nodes) (nodeCount (maxLevels l)) h))
+          (λ e. let w : ⊥ = omega arith in absurd w) (omega arith)
+
+      module _ (fit : nodeCount (maxLevels l) ≤ length nodes) where
+        last : latticeNumber l log (length marks) (length nodes) budget ≡ (ltb budget (crossings (maxLevels l) (vectors l log)) gives 11)
+        unfolding latticeNumber _gives_ _then_
+        last = rw (z, le-ltb 32768 (nodeCount (maxLevels l)) few, le-ltb (length nodes) (nodeCount (maxLevels l)) fit)
+
+        -- from the walk on weights and node numbers
+        module _ (ok : Bool) (made : ℕ) (marks′ nodes′ : List ℕ)
+            (s : Settles (weightsOf (maxLevels l)) (rowNodes l log) (nodeCount (maxLevels l)) budget (take (rowCount log) marks) ok made marks′ nodes′)
+          where
+            abbrev tops : List ℕ
+            tops = maxLevels l
+
+            abbrev rows : List (List ℕ)
+            rows = vectors l log
+
+            pass : Passed l log (length marks)
+            pass = passed l log (length marks) z
+
+            valid : All (Within tops) rows
+            valid = vectors-within l log (pass .list-accepted) (pass .rows-accepted)
+
+            walk-is : crossed (weightsOf tops) (rowNodes l log) (nodeCount tops) ≡ joined (crossedAt tops rows) (nodeCount tops)
+            walk-is = trail-crossed tops rows valid (rowNodes l log) (λ y h. rows-hold l log y) (nodeCount tops) (le-refl (nodeCount tops))
+
+            count-is : length (crossed (weightsOf tops) (rowNodes l log) (nodeCount tops)) ≡ crossings tops rows
+            unfolding crossings
+            count-is = ap length walk-is
+
+            enough : ok ≡ leb (crossings tops rows) budget
+            enough = rw count-is at (s .enough)
+
+            pub spent : ok ≡ false → Ran l log marks nodes budget (Refused 11) (marks′ ++ drop (rowCount log) marks) (nodes′ ++ drop (nodeCount tops) nodes)
+            unfolding marksLeft nodesLeft
+            spent e =
+                let over = leb-false (crossings tops rows) budget (sym enough ∙ e) in
+                let number = last ∙ gives-yes (ltb budget (crossings tops rows)) 11 (lt-ltb budget (crossings tops rows) over) in
+                record {
+                  ends = rw number (unfold outcome in refl);
+                  marks-are = rw (number, s .marks-are, e) (take-append-drop (rowCount log) marks);
+                  nodes-are = rw (number, s .nodes-are, e);
+                }
+
+            -- the bytes of the nodes, and the marks by them
+            bytes-are : ok ≡ true → nodes′ ≡ nodeBytes tops rows
+            bytes-are e = s .nodes-are ∙ rw (e, walk-is) (bytes-final tops rows valid (rowNodes l log) (λ y h. rows-hold l log y))
+
+            marks-are : ok ≡ true → marks′ ≡ marksOf l log
+            marks-are e = s .marks-are ∙ rw (e, bytes-are e) (rows-marked l log (pass .list-accepted) (pass .rows-accepted))
+
+            pub through : ok ≡ true → Ran l log marks nodes budget (Crossed made) (marks′ ++ drop (rowCount log) marks) (nodes′ ++ drop (nodeCount tops) nodes)
+            unfolding marksLeft nodesLeft marksAfter
+            through e =
+                let fits = leb-true (crossings tops rows) budget (sym enough ∙ e) in
+                let number = last ∙ gives-no (ltb budget (crossings tops rows)) 11 (le-ltb budget (crossings tops rows) fits) in
+                record {
+                  ends = rw (number, s .counted e, count-is) (unfold outcome in refl);
+                  marks-are = rw (number, marks-are e);
+                  nodes-are = rw (number, bytes-are e);
+                }
