@@ -1,0 +1,104 @@
+-- The machine on a log: its marks are those of the log's best matches, its count fits 32 bits, and over the log's level table it is the same.
+use mathlib.Core.Path.{_≡_, refl, sym, ap, _∙_}
+use Prim.Native.Nat.{ℕ, zero, suc, _-_, _≤_, _<_}
+use native.Mathlib.Omega.{arith}
+use native.Mathlib.Nat.{mul-le-mul}
+use mathlib.Core.Bool.{Bool, true, false, not, _&&_, cond}
+use mathlib.Core.List.{List, [], _∷_, List·Memᴰ, List·Memᴰ·not-nil, List·Memᴰ·append-cases, List·Memᴰ·eq-of-singleton}
+use mathlib.Core.Logic.{⊎-elim}
+use lib.Dec.{eqb}
+use lib.IntN.{ℤ}
+use lib.ListN.{length}
+use borrow.Author.Tests.{eq-eqb, eqb-true}
+use Rattle.laws.specs.Lists.{joined, anyOf}
+use Rattle.laws.specs.Laws.AnyOf.{passing-found, passing-any}
+use Rattle.laws.specs.Laws.Bools.{false-true}
+use Rattle.laws.specs.Laws.Joined.{joined-cong, singles-length}
+use Rattle.runs.specs.Log.{rowCount}
+use Rattle.preference.specs.Valid.{listNumber}
+use Rattle.preference.specs.declared.PreferenceList.{PreferenceList}
+use Rattle.pareto.specs.Best.{competes, competing, vectorAt, rowDominates, isBest, marksOf}
+use Rattle.pareto.specs.Checked.{rowsNumber}
+use Rattle.pareto.specs.Table.{tableOf}
+use Rattle.pareto.specs.Laws.Best.{row-transitive}
+use Rattle.pareto.specs.Laws.Dominance.{dominates-irreflexive}
+use Rattle.pareto.specs.Laws.Table.{compared-is}
+use Rattle.machine.specs.Machine.{machine}
+use Rattle.machine.specs.Laws.Agree.{machine-agree}
+use Rattle.machine.specs.Laws.Ends.{count-bound}
+use Rattle.machine.specs.Laws.Marks.{undominated, machine-marks}
+use Rattle.bnl.specs.Engine.{machineOf}
+use Rattle.bnl.specs.Work.{tableDominates, allRows}
+
+rows-below : (n r : ℕ) → List·Memᴰ r (allRows n) → r < n
+unfolding joined
+rows-below zero r k = absurd (List·Memᴰ·not-nil k)
+rows-below (suc n) r k =
+    ⊎-elim
+    (λ (k′ : List·Memᴰ r (allRows n)). omega (arith, rows-below n r k′))
+    (λ (k′ : List·Memᴰ r (n ∷ [])). omega (arith, List·Memᴰ·eq-of-singleton k′))
+    (List·Memᴰ·append-cases (allRows n) k)
+
+module _ (l : PreferenceList) (log : List ℤ) where
+  -- every run competes
+  all-compete : competing log ≡ allRows (rowCount log)
+  unfolding competing competes
+  all-compete = refl
+
+  irreflexive : (r : ℕ) → rowDominates l log r r ≡ false
+  unfolding rowDominates
+  irreflexive r = go (rowDominates l log r r) refl
+    where
+      go : (b : Bool) → rowDominates l log r r ≡ b → b ≡ false
+      go false e = refl
+      go true e = absurd (dominates-irreflexive (vectorAt l log r) e)
+
+  -- a row of the log is in the list exactly where it competes
+  listed : (r : ℕ) → r < rowCount log → anyOf (eqb r) (competing log) ≡ competes log r
+  unfolding competing
+  listed r h = go (competes log r) refl
+    where
+      out : competes log r ≡ false → (b : Bool) → anyOf (eqb r) (competing log) ≡ b → b ≡ false
+      out e false q = refl
+      out e true q =
+          let f = passing-found (eqb r) (competes log) (rowCount log) q in
+          false-true (sym e ∙ ap (competes log) (eqb-true r (f .at) (f .holds)) ∙ f .passes)
+
+      go : (c : Bool) → competes log r ≡ c → anyOf (eqb r) (competing log) ≡ c
+      go true e = passing-any (eqb r) (competes log) (rowCount log) r h e (eq-eqb r r refl)
+      go false e = out e (anyOf (eqb r) (competing log)) refl
+
+  best-is : (r : ℕ) → r < rowCount log → undominated (rowDominates l log) (competing log) r ≡ isBest l log r
+  unfolding undominated isBest
+  best-is r h = ap (λ (b : Bool). b && not (anyOf (λ s. rowDominates l log s r) (competing log))) (listed r h)
+
+  pub machine-best : (w : ℕ) → 1 ≤ w → machineOf l log w .marks ≡ marksOf l log
+  unfolding machineOf marksOf
+  machine-best w pos =
+      machine-marks (rowDominates l log) (competing log) (rowCount log) (λ r k. rows-below (rowCount log) r (rw all-compete at k)) irreflexive (row-transitive l log) w pos
+      ∙ joined-cong _ _ (rowCount log) (λ r h. ap (λ (b : Bool). cond b 1 0 ∷ []) (best-is r h))
+
+  -- the count fits 32 bits
+  pub count-small : (w : ℕ) → 1 ≤ w → rowCount log ≤ 1024 → machineOf l log w .count < 4294967296
+  unfolding machineOf
+  count-small w pos few =
+      let n : length (competing log) ≡ rowCount log = rw all-compete (singles-length (λ (r : ℕ). r) (rowCount log)) in
+      let b = rw n at (count-bound (rowDominates l log) w (competing log) (rowCount log) pos) in
+      let d : rowCount log - 1 ≤ 1024 = omega arith in
+      omega (arith, b, mul-le-mul few d)
+
+  module _ (e : listNumber l ≡ 0) (f : rowsNumber l log ≡ 0) where
+    table-dominates : (a b : ℕ) → a < rowCount log → b < rowCount log → tableDominates (tableOf l log) a b ≡ rowDominates l log a b
+    unfolding tableDominates
+    table-dominates a b h j = rw (compared-is l log e f a b h j) (first (rowDominates l log a b) (rowDominates l log b a))
+      where
+        first : (s t : Bool) → eqb (cond s 1 (cond t 2 0)) 1 ≡ s
+        first true t = refl
+        first false true = refl
+        first false false = refl
+
+    pub machine-table : (w : ℕ) → machine (tableDominates (tableOf l log)) w (allRows (rowCount log)) (rowCount log) ≡ machineOf l log w
+    unfolding machineOf
+    machine-table w =
+        machine-agree (tableDominates (tableOf l log)) (rowDominates l log) w (rowCount log) table-dominates (allRows (rowCount log)) (rows-below (rowCount log))
+        ∙ rw all-compete

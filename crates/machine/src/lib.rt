@@ -1,0 +1,1 @@
+// The window machine as a definition (specs/), and its theorems (specs/Laws/). There is no code here.
