@@ -1,0 +1,85 @@
+-- Rows keep their vectors, whether they compete and what dominates them wherever they stand, and so their marks.
+use mathlib.Core.Path.{_≡_, refl, sym, ap, ap₂, _∙_}
+use Prim.Native.Nat.{ℕ, _<_}
+use native.Mathlib.Omega.{arith}
+use mathlib.Core.Bool.{Bool, true, false, not, _&&_, cond}
+use mathlib.Core.List.{List}
+use lib.IntN.{ℤ}
+use lib.ListN.{getD, drop, List·getD-append}
+use Rattle.laws.specs.Lists.{anyOf}
+use Rattle.laws.specs.Laws.AnyOf.{Found, passing-found, passing-any}
+use Rattle.laws.specs.Laws.Joined.{singles-at, singles-length}
+use Rattle.runs.specs.Log.{rowCount, rowAt}
+use Rattle.preference.specs.Parts.{levels}
+use Rattle.preference.specs.declared.PreferenceList.{PreferenceList}
+use Rattle.pareto.specs.Dominance.{dominates}
+use Rattle.pareto.specs.Best.{competes, competing, vectorAt, rowDominates, isBest, markAt, marksOf, marksAfter}
+use Rattle.reorder.specs.Reordered.{Reordered}
+
+both-ways : (a b : Bool) → (a ≡ true → b ≡ true) → (b ≡ true → a ≡ true) → a ≡ b
+both-ways true b f g = sym (f refl)
+both-ways false true f g = g refl
+both-ways false false f g = refl
+
+-- whether a row competes is told by the row
+competes-same : (log log′ : List ℤ) (r p : ℕ) → rowAt log′ p ≡ rowAt log r → competes log′ p ≡ competes log r
+unfolding competes
+competes-same log log′ r p e = refl
+
+module _ (l : PreferenceList) (log log′ : List ℤ) (place origin : ℕ → ℕ) (h : Reordered log log′ place origin) where
+  vector-same : (r : ℕ) → r < rowCount log → vectorAt l log′ (place r) ≡ vectorAt l log r
+  unfolding vectorAt
+  vector-same r b = ap (levels l) (h .same-row r b)
+
+  dominates-same : (s r : ℕ) → s < rowCount log → r < rowCount log → rowDominates l log′ (place s) (place r) ≡ rowDominates l log s r
+  unfolding rowDominates
+  dominates-same s r a b = ap₂ dominates (vector-same s a) (vector-same r b)
+
+  -- what dominates a row of the second log stands in the first
+  found-before : (r : ℕ) → r < rowCount log → Found (λ s. rowDominates l log′ s (place r)) (competes log′) (rowCount log′)
+      → anyOf (λ s. rowDominates l log s r) (competing log) ≡ true
+  unfolding competing
+  found-before r b f =
+      let p : f .at < rowCount log = omega (arith, f .below, h .same-count) in
+      let o = h .origin-below (f .at) p in
+      let e = h .place-origin (f .at) p in
+      passing-any (λ s. rowDominates l log s r) (competes log) (rowCount log) (origin (f .at)) o
+      (sym (competes-same log log′ (origin (f .at)) (place (origin (f .at))) (h .same-row (origin (f .at)) o)) ∙ ap (competes log′) e ∙ f .passes)
+      (sym (dominates-same (origin (f .at)) r o b) ∙ ap (λ (s : ℕ). rowDominates l log′ s (place r)) e ∙ f .holds)
+
+  -- and what dominates a row of the first stands in the second
+  found-after : (r : ℕ) → r < rowCount log → Found (λ s. rowDominates l log s r) (competes log) (rowCount log)
+      → anyOf (λ s. rowDominates l log′ s (place r)) (competing log′) ≡ true
+  unfolding competing
+  found-after r b f =
+      passing-any (λ s. rowDominates l log′ s (place r)) (competes log′) (rowCount log′) (place (f .at))
+      (omega (arith, h .place-below (f .at) (f .below), h .same-count))
+      (competes-same log log′ (f .at) (place (f .at)) (h .same-row (f .at) (f .below)) ∙ f .passes)
+      (dominates-same (f .at) r (f .below) b ∙ f .holds)
+
+  any-same : (r : ℕ) → r < rowCount log → anyOf (λ s. rowDominates l log′ s (place r)) (competing log′) ≡ anyOf (λ s. rowDominates l log s r) (competing log)
+  any-same r b =
+      both-ways (anyOf (λ s. rowDominates l log′ s (place r)) (competing log′)) (anyOf (λ s. rowDominates l log s r) (competing log))
+      (λ e. found-before r b (unfold competing in passing-found (λ s. rowDominates l log′ s (place r)) (competes log′) (rowCount log′) e))
+      (λ e. found-after r b (unfold competing in passing-found (λ s. rowDominates l log s r) (competes log) (rowCount log) e))
+
+  best-same : (r : ℕ) → r < rowCount log → isBest l log′ (place r) ≡ isBest l log r
+  unfolding isBest
+  best-same r b = ap₂ (λ (c d : Bool). c && not d) (competes-same log log′ r (place r) (h .same-row r b)) (any-same r b)
+
+  pub mark-same : (r : ℕ) → r < rowCount log → markAt l log′ (place r) ≡ markAt l log r
+  mark-same r b = ap (λ (t : Bool). cond {A = ℕ} t 1 0) (best-same r b)
+
+  placed : (r : ℕ) → r < rowCount log → place r < rowCount log′
+  placed r b = omega (arith, h .place-below r b, h .same-count)
+
+  pub marks-same : (r : ℕ) → r < rowCount log → getD (marksOf l log′) (place r) 0 ≡ getD (marksOf l log) r 0
+  unfolding marksOf
+  marks-same r b = singles-at (markAt l log′) (rowCount log′) (place r) (placed r b) ∙ mark-same r b ∙ sym (singles-at (markAt l log) (rowCount log) r b)
+
+  front : (g : List ℤ) (bytes : List ℕ) (r : ℕ) → r < rowCount g → getD (marksAfter l g bytes) r 0 ≡ getD (marksOf l g) r 0
+  unfolding marksAfter marksOf
+  front g bytes r b = List·getD-append (marksOf l g) (drop (rowCount g) bytes) 0 r (omega (arith, singles-length (markAt l g) (rowCount g)))
+
+  pub marks-after-same : (bytes bytes′ : List ℕ) (r : ℕ) → r < rowCount log → getD (marksAfter l log′ bytes′) (place r) 0 ≡ getD (marksAfter l log bytes) r 0
+  marks-after-same bytes bytes′ r b = front log′ bytes′ (place r) (placed r b) ∙ marks-same r b ∙ sym (front log bytes r b)
