@@ -1,0 +1,74 @@
+-- The ways of a call.
+use mathlib.Core.Path.{_≡_, refl, sym, _∙_}
+use Prim.Native.Nat.{ℕ, _<_, _≤_}
+use native.Mathlib.Omega.{arith}
+use mathlib.Core.Bool.{Bool, true, false, _&&_}
+use mathlib.Core.List.{List}
+use mathlib.Core.Logic.{⊎-elim}
+use lib.Dec.{leb}
+use lib.IntN.{ℤ}
+use borrow.Author.Tests.{le-leb, lt-leb}
+use Rattle.laws.specs.Checks.{_gives_, _then_}
+use Rattle.laws.specs.Laws.AnyOf.{passing-any}
+use Rattle.laws.specs.Laws.Bools.{both}
+use Rattle.laws.specs.Laws.Checks.{gives-yes, gives-no, then-first, then-next, then-none}
+use Rattle.runs.specs.Log.{rowCount, logNumber}
+use Rattle.runs.specs.Laws.Log as runs
+use Rattle.preference.specs.Valid.{listNumber}
+use Rattle.preference.specs.declared.PreferenceList.{PreferenceList}
+use Rattle.pareto.specs.Best.{competes, competing, rowDominates, isBest}
+use Rattle.pareto.specs.Checked.{checkedNumber}
+use Rattle.dominator.specs.Climb.{Accepted, Climbed}
+use Rattle.dominator.specs.Engine.{dominatorNumber, Answered}
+use Rattle.dominator.specs.declared.DominatorAnswer.the-variants.{Row, Refused}
+
+module _ (l : PreferenceList) (log : List ℤ) (row k : ℕ) (e : k ≡ checkedNumber l log 0) where
+  pub refused : (k ≡ 0 → ⊥) → Answered l log row (Refused k)
+  unfolding dominatorNumber Answered
+  refused h = record { number = e ∙ sym (then-first (checkedNumber l log 0) _ (λ z. h (e ∙ z))); some = h }
+
+  pub no-row : k ≡ 0 → rowCount log ≤ row → Answered l log row (Refused 12)
+  unfolding dominatorNumber Answered _gives_
+  no-row z h = record {
+    number = sym (then-next (checkedNumber l log 0) _ (sym e ∙ z) ∙ rw (le-leb (rowCount log) row h) (then-first 12 (isBest l log row gives 13) (λ y. omega arith)));
+    some = λ y. omega arith;
+  }
+
+  pub accepted : k ≡ 0 → row < rowCount log → Accepted l log row
+  unfolding checkedNumber _then_
+  accepted z h =
+      let a = then-none (listNumber l) _ (sym e ∙ z) in
+      let b = then-none (logNumber log) _ (a .1) in
+      record { list = a .0; values = b .1; few = runs.accepted log (b .0) .few; is-row = h }
+
+  number-is : k ≡ 0 → row < rowCount log → dominatorNumber l log row ≡ isBest l log row gives 13
+  unfolding dominatorNumber
+  number-is z h = then-next (checkedNumber l log 0) _ (sym e ∙ z) ∙ then-next (leb (rowCount log) row gives 12) _ (gives-no (leb (rowCount log) row) 12 (lt-leb (rowCount log) row h))
+
+  pub shortlisted : k ≡ 0 → row < rowCount log → (best : ℕ) → Climbed l log row best → best ≡ row → Answered l log row (Refused 13)
+  unfolding Answered
+  shortlisted z h best c s = record {
+    number = sym (number-is z h ∙ gives-yes (isBest l log row) 13 (rw s at (c .shortlisted)));
+    some = λ y. omega arith;
+  }
+
+  row-beaten : (best : ℕ) → best < rowCount log → isBest l log best ≡ true → rowDominates l log best row ≡ true → isBest l log row ≡ false
+  unfolding isBest competing
+  row-beaten best h b d =
+      let c = both (competes log best) _ b .0 in
+      rw (passing-any (λ s. rowDominates l log s row) (competes log) (rowCount log) best h c d) (and-false (competes log row))
+    where
+      and-false : (t : Bool) → t && false ≡ false
+      and-false true = refl
+      and-false false = refl
+
+  pub beaten : k ≡ 0 → row < rowCount log → (best : ℕ) → Climbed l log row best → (best ≡ row → ⊥) → Answered l log row (Row best)
+  unfolding Answered
+  beaten z h best c n =
+      let d : rowDominates l log best row ≡ true = ⊎-elim (λ (y : best ≡ row). absurd (n y)) (λ (y : rowDominates l log best row ≡ true). y) (c .reached) in
+      record {
+        accepted = number-is z h ∙ gives-no (isBest l log row) 13 (row-beaten best (c .within) (c .shortlisted) d);
+        is-row = c .within;
+        shortlisted = c .shortlisted;
+        betters = d;
+      }

@@ -1,0 +1,3 @@
+pub mod Engine
+pub mod Climb
+pub mod Laws
