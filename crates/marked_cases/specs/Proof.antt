@@ -1,0 +1,39 @@
+-- The marked cases hold: the answers of the whole table are computed, and one law gives the statement of each case.
+use mathlib.Core.Path.{_≡_, refl}
+use mathlib.Core.List.{List, [], _∷_, map}
+use Rattle.laws.specs.Checks.{_gives_, _then_}
+use Rattle.laws.specs.First.{firstAt, anyBelow, firstNumber}
+use Rattle.laws.specs.Outcome.{outcome}
+use Rattle.arith.specs.Gap.{gap}
+use Rattle.arith.specs.Ceil.{ceilDiv}
+use Rattle.constructor.specs.Level.{distance, inside, maxLevel}
+use Rattle.constructor.specs.Valid.{sound, constructorNumber, layerNumber}
+use Rattle.preference.specs.Valid.{columnNumber, preferenceNumber, namedNumber, listNumber}
+use Rattle.preference.specs.Level.{layerOf, levelAt, maxAt, valueNumber, levelNumber}
+use Rattle.preference.specs.Parts.{levels, maxLevels, rowNumber}
+use Rattle.laws.specs.Lists.{joined, anyOf}
+use Rattle.runs.specs.Log.{logNumber}
+use Rattle.pareto.specs.Dominance.{noneAbove, someBelow, dominates}
+use Rattle.pareto.specs.Best.{competes, competing, vectorAt, vectors, rowDominates, isBest, marksOf}
+use Rattle.pareto.specs.Checked.{rowsNumber, checkedNumber}
+use Rattle.nodes.specs.Lattice.{nodeCount, nodeId, levelsOf, held, dominatedNode, reached, edgesFrom, edges, crossedAt, crossings, boundFrom, bound}
+use Rattle.lattice.specs.Engine.{latticeNumber}
+use Rattle.machine.specs.Machine as machines
+use Rattle.bnl.specs.Engine.{sizesNumber, windowNumber, machineOf}
+use Rattle.marked_cases.specs.Question.{Answer, answer, Case, Holds, Each}
+use Rattle.marked_cases.specs.Table.{cases}
+
+answers : List Case → List Answer
+answers = map (λ c. answer (c .asks))
+
+expected : List Case → List Answer
+expected = map (λ c. c .expects)
+
+each : (cs : List Case) → answers cs ≡ expected cs → Each cs
+unfolding answers expected Holds
+each [] e = tt
+each (c ∷ cs) e = (cc, each cs (cc))
+
+pub marked-cases : Each cases
+unfolding answers expected answer outcome _gives_ _then_ firstAt anyBelow firstNumber gap ceilDiv distance inside maxLevel sound constructorNumber layerNumber columnNumber preferenceNumber namedNumber listNumber layerOf levelAt maxAt valueNumber levelNumber levels maxLevels rowNumber joined anyOf logNumber noneAbove someBelow dominates competes competing vectorAt vectors rowDominates isBest marksOf rowsNumber checkedNumber nodeCount nodeId levelsOf held dominatedNode reached edgesFrom edges crossedAt crossings boundFrom bound latticeNumber sizesNumber windowNumber machineOf machines.keep machines.marked machines.older machines.younger machines.release machines.dominated machines.compares machines.tick machines.spares machines.remove machines.enter machines.setAside machines.renew machines.finish machines.isEmpty machines.place machines.judge machines.read machines.pass machines.passes machines.start machines.machine
+marked-cases = each cases refl

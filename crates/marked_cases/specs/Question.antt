@@ -1,0 +1,53 @@
+-- What a marked case asks, and the answer that the definitions give.
+use Prim.Native.Nat.{ℕ}
+use mathlib.Core.List.{List, [], _∷_}
+use mathlib.Core.Path.{_≡_}
+use lib.IntN.{ℤ}
+use Rattle.laws.specs.Outcome.{Outcome, accepted, refused, outcome}
+use Rattle.preference.specs.Level.{levelNumber, levelAt, maxAt}
+use Rattle.preference.specs.Parts.{maxLevels}
+use Rattle.pareto.specs.Best.{vectors, marksOf}
+use Rattle.nodes.specs.Lattice.{nodeCount, crossings, bound}
+use Rattle.lattice.specs.Engine.{latticeNumber}
+use Rattle.bnl.specs.Engine.{windowNumber, machineOf}
+use Rattle.preference.specs.declared.PreferenceList.{PreferenceList}
+
+pub data Question : Type 0 where
+  -- the level of a value under the preference at a place
+  levelAsked : PreferenceList → ℕ → ℤ → Question
+  -- M of the preference at a place
+  maxAsked : PreferenceList → ℕ → Question
+  -- the marks of a log
+  marksAsked : PreferenceList → List ℤ → Question
+  -- the nodes of a list's lattice, a log's crossings, and their bound
+  latticeAsked : PreferenceList → List ℤ → Question
+  -- a call of the lattice engine, with so many mark bytes and node bytes, and a budget
+  latticeCalled : PreferenceList → List ℤ → ℕ → ℕ → ℕ → Question
+  -- a call of the window engine, with so many mark bytes and numbers in the work list, and a window
+  windowCalled : PreferenceList → List ℤ → ℕ → ℕ → ℕ → Question
+
+pub data Answer : Type 0 where
+  ends : Outcome → Answer
+  figure : ℕ → Answer
+  figures : List ℕ → Answer
+
+unfoldable pub answer : Question → Answer
+answer (levelAsked l i v) = ends (outcome (levelNumber l i v) (levelAt l i v))
+answer (maxAsked l i) = figure (maxAt l i)
+answer (marksAsked l log) = figures (marksOf l log)
+answer (latticeAsked l log) = figures (nodeCount (maxLevels l) ∷ crossings (maxLevels l) (vectors l log) ∷ bound (maxLevels l) ∷ [])
+answer (windowCalled l log marks work w) = ends (outcome (windowNumber l log marks work w) (machineOf l log w .count))
+answer (latticeCalled l log marks nodes budget) = ends (outcome (latticeNumber l log marks nodes budget) (crossings (maxLevels l) (vectors l log)))
+
+pub record Case : Type 0 where
+  pub asks : Question
+  pub expects : Answer
+
+-- the statement that all cases share
+unfoldable pub Holds : Case → Type 0
+Holds c = answer (c .asks) ≡ c .expects
+
+-- it holds of every case of a table
+abbrev pub Each : List Case → Type 0
+Each [] = Unit {0}
+Each (c ∷ cs) = Holds c × Each cs

@@ -1,0 +1,134 @@
+-- Document 01, "Harbour log and marked cases": the table.
+use Prim.Native.Nat.{ℕ, _+_, _*_}
+use mathlib.Core.List.{List, [], _∷_, _++_}
+use lib.IntN.{ℤ, pos, negsuc}
+use Rattle.laws.specs.Outcome.{accepted, refused}
+use Rattle.constructor.specs.declared.Constructor.{Constructor}
+use Rattle.constructor.specs.declared.Constructor.the-variants.{Lowest, Highest, Around, Between, Layered}
+use Rattle.preference.specs.declared.Named.{Named}
+use Rattle.preference.specs.declared.PreferenceList.{PreferenceList}
+use Rattle.marked_cases.specs.Question.{levelAsked, maxAsked, marksAsked, latticeAsked, latticeCalled, windowCalled, ends, figure, figures, Case}
+
+-- a list of one preference, with so many named values
+abbrev pub single : Constructor → ℕ → List Named → PreferenceList
+single c n names = record { count = 1; preferences = record { column = 1; constructor = c } ∷ []; namings = n; named = names }
+
+-- the level of a value, the number that it is refused by, and M, under the one preference of a list
+abbrev pub level : PreferenceList → ℤ → ℕ → Case
+level l v n = record { asks = levelAsked l 0 v; expects = ends (accepted n) }
+
+abbrev pub refusal : PreferenceList → ℤ → ℕ → Case
+refusal l v k = record { asks = levelAsked l 0 v; expects = ends (refused k) }
+
+abbrev pub greatest : PreferenceList → ℕ → Case
+greatest l m = record { asks = maxAsked l 0; expects = figure m }
+
+-- the lists of P1 and P2, P3, P4 and P5 (every i32, by a step), P6
+abbrev pub around : PreferenceList
+around = single (Around (pos 45) (pos 75) 5 (pos 50)) 0 []
+
+abbrev pub between : PreferenceList
+between = single (Between (pos 50) (pos 95) 5 (pos 60) (pos 80)) 0 []
+
+abbrev pub lowest : ℕ → PreferenceList
+lowest step = single (Lowest (negsuc 2147483647) (pos 2147483647) step) 0 []
+
+abbrev pub layered : PreferenceList
+layered = single (Layered 2 1) 2 (record { preference = 0; value = pos 7; layer = 0 } ∷ record { preference = 0; value = pos 3; layer = 2 } ∷ [])
+
+-- the Harbour log: most cubic metres, density near 1,250; hours, cubic metres and density of each run, the rest 0
+abbrev pub harbour : PreferenceList
+harbour =
+    record {
+      count = 2;
+      preferences =
+          record { column = 1; constructor = Highest (pos 0) (pos 1000) 100 }
+          ∷ record { column = 2; constructor = Around (pos 1000) (pos 1600) 50 (pos 1250) } ∷ [];
+      namings = 0;
+      named = [];
+    }
+
+abbrev pub run : ℕ → ℕ → ℕ → List ℤ
+run hours metres density = pos hours ∷ pos metres ∷ pos density ∷ pos 0 ∷ pos 0 ∷ pos 0 ∷ pos 0 ∷ pos 0 ∷ []
+
+abbrev pub harbourLog : List ℤ
+harbourLog = run 800 900 1300 ++ run 650 1000 1400 ++ run 700 850 1250 ++ run 720 880 1210 ++ run 810 900 1270
+
+-- two LOWEST wishes by 1, with so many levels above 0
+abbrev pub twoLowest : ℕ → ℕ → PreferenceList
+twoLowest m n =
+    record {
+      count = 2;
+      preferences = record { column = 1; constructor = Lowest (pos 0) (pos m) 1 } ∷ record { column = 2; constructor = Lowest (pos 0) (pos n) 1 } ∷ [];
+      namings = 0;
+      named = [];
+    }
+
+abbrev pub marks : PreferenceList → List ℤ → List ℕ → Case
+marks l log m = record { asks = marksAsked l log; expects = figures m }
+
+abbrev pub lattice : PreferenceList → List ℤ → List ℕ → Case
+lattice l log n = record { asks = latticeAsked l log; expects = figures n }
+
+-- the lattice engine with a budget, marks and node bytes enough
+abbrev pub crossed : PreferenceList → List ℤ → ℕ → ℕ → ℕ → ℕ → Case
+crossed l log rows nodes budget n = record { asks = latticeCalled l log rows nodes budget; expects = ends (accepted n) }
+
+abbrev pub notCrossed : PreferenceList → List ℤ → ℕ → ℕ → ℕ → ℕ → Case
+notCrossed l log rows nodes budget k = record { asks = latticeCalled l log rows nodes budget; expects = ends (refused k) }
+
+-- the window engine with window w, marks and a work list enough
+abbrev pub compared : PreferenceList → List ℤ → ℕ → ℕ → ℕ → Case
+compared l log rows w n = record { asks = windowCalled l log rows (2 * (rows + w)) w; expects = ends (accepted n) }
+
+-- P10's log: level vectors (2,1) (1,2) (0,5) (1,1)
+abbrev pub fourRuns : List ℤ
+fourRuns = run 1 2 1 ++ run 1 1 2 ++ run 1 0 5 ++ run 1 1 1
+
+abbrev pub cases : List Case
+cases =
+    -- P1
+    level around (pos 45) 1 ∷
+    level around (pos 50) 0 ∷
+    level around (pos 55) 1 ∷
+    level around (pos 70) 4 ∷
+    level around (pos 75) 5 ∷
+    greatest around 5 ∷
+    -- P2
+    level around (pos 51) 1 ∷
+    level around (pos 56) 2 ∷
+    -- P3
+    level between (pos 59) 1 ∷
+    level between (pos 60) 0 ∷
+    level between (pos 80) 0 ∷
+    level between (pos 81) 1 ∷
+    level between (pos 95) 3 ∷
+    -- P4
+    greatest (lowest 65537) 65535 ∷
+    level (lowest 65537) (pos 0) 32768 ∷
+    -- P5
+    refusal (lowest 65536) (pos 0) 7 ∷
+    -- P6
+    level layered (pos 7) 0 ∷
+    level layered (pos 3) 2 ∷
+    level layered (pos 9) 1 ∷
+    -- P7
+    marks harbour harbourLog (1 ∷ 1 ∷ 1 ∷ 0 ∷ 1 ∷ []) ∷
+    -- P8
+    lattice harbour harbourLog (88 ∷ 149 ∷ 157 ∷ []) ∷
+    crossed harbour harbourLog 5 88 149 149 ∷
+    notCrossed harbour harbourLog 5 88 148 11 ∷
+    -- P9
+    compared harbour harbourLog 5 1 7 ∷
+    compared harbour harbourLog 5 4 7 ∷
+    -- P10
+    marks (twoLowest 5 5) fourRuns (0 ∷ 0 ∷ 1 ∷ 1 ∷ []) ∷
+    compared (twoLowest 5 5) fourRuns 4 2 6 ∷
+    -- P11
+    marks harbour [] [] ∷
+    crossed harbour [] 0 88 0 0 ∷
+    compared harbour [] 0 64 0 ∷
+    -- P12
+    crossed (twoLowest 127 255) [] 0 32768 0 0 ∷
+    notCrossed (twoLowest 128 255) [] 0 40000 0 9 ∷
+    []
