@@ -1,0 +1,53 @@
+use borrow.Author.Needs.{needs}
+use Prim.Native.Nat.{_≤_, _<_, _-_}
+use Rattle.lattice_trials.proofs.model.equals.Statement.{statement}
+use Rattle.lattice_trials.proofs.model.equals.Tie as tie
+
+abbrev Inv-loop : tie.InvT-loop
+Inv-loop x a y b equal₀ k₀ equal k = (a < 10000) × (b < 10000) × (k ≤ 8)
+
+abbrev μ-loop : tie.MeasureT-loop
+μ-loop x a y b equal₀ k₀ equal k = 8 - k
+
+loop-holds : tie.Need-loop-holds Inv-loop μ-loop
+loop-holds c = search needs
+
+add-get : tie.Need-add-get Inv-loop μ-loop
+add-get c = search needs
+
+get-requires : tie.Need-get-requires Inv-loop μ-loop
+get-requires c κs = search needs
+
+add-get-2 : tie.Need-add-get-2 Inv-loop μ-loop
+add-get-2 c = search needs
+
+get-requires-2 : tie.Need-get-requires-2 Inv-loop μ-loop
+get-requires-2 c κs = search needs
+
+add-k : tie.Need-add-k Inv-loop μ-loop
+add-k c = search needs
+
+loop-less : tie.Need-loop-less Inv-loop μ-loop
+loop-less c = search needs
+
+loop-again : tie.Need-loop-again Inv-loop μ-loop
+loop-again c = search needs
+
+returns : tie.Need-returns Inv-loop μ-loop
+returns c = search needs
+
+pub equals-spec : {M : Type 1} → statement M
+equals-spec =
+    tie.close
+    (tie.spec
+    Inv-loop
+    μ-loop
+    loop-holds
+    add-get
+    get-requires
+    add-get-2
+    get-requires-2
+    add-k
+    loop-less
+    loop-again
+    returns)

@@ -1,0 +1,55 @@
+use borrow.Author.Needs.{needs}
+use Prim.Native.Nat.{_<_, _-_}
+use mathlib.Core.Path.{_≡_}
+use lib.ListN.{length}
+use Rattle.lattice_trials.proofs.model.fill_marks.Statement.{statement}
+use Rattle.lattice_trials.proofs.model.fill_marks.Tie as tie
+
+abbrev Inv-loop : tie.InvT-loop
+Inv-loop table rows marks₀ r₀ marks r = (rows < 1000) × (length marks ≡ length marks₀)
+
+abbrev μ-loop : tie.MeasureT-loop
+μ-loop table rows marks₀ r₀ marks r = rows - r
+
+loop-holds : tie.Need-loop-holds Inv-loop μ-loop
+loop-holds c = search needs
+
+mul-beaten : tie.Need-mul-beaten Inv-loop μ-loop
+mul-beaten c = search needs
+
+beaten-requires : tie.Need-beaten-requires Inv-loop μ-loop
+beaten-requires c κs = search needs
+
+put-u8-requires : tie.Need-put-u8-requires Inv-loop μ-loop
+put-u8-requires c κs = search needs
+
+add-r : tie.Need-add-r Inv-loop μ-loop
+add-r c = search needs
+
+loop-less : tie.Need-loop-less Inv-loop μ-loop
+loop-less c = search needs
+
+loop-again : tie.Need-loop-again Inv-loop μ-loop
+loop-again c = search needs
+
+same-length : tie.Need-same-length Inv-loop μ-loop
+same-length c = search needs
+
+returns : tie.Need-returns Inv-loop μ-loop
+returns c = search needs
+
+pub fill-marks-spec : {M : Type 1} → statement M
+fill-marks-spec =
+    tie.close
+    (tie.spec
+    Inv-loop
+    μ-loop
+    loop-holds
+    mul-beaten
+    beaten-requires
+    put-u8-requires
+    add-r
+    loop-less
+    loop-again
+    same-length
+    returns)
