@@ -5,6 +5,7 @@ pub mod Lengths
 pub mod Read
 pub mod Values
 pub mod Accepted
+pub mod Rows
 pub mod Empty
 pub mod Ninth
 pub mod Longest

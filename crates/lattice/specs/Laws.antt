@@ -1,3 +1,4 @@
 pub mod Checked
 pub mod Rows
 pub mod Ran
+pub mod Left

@@ -1,3 +1,4 @@
 pub mod Engine
 pub mod Progress
 pub mod Laws
+pub mod Theorems

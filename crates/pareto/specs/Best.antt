@@ -3,7 +3,8 @@ use Prim.Native.Nat.{ℕ}
 use mathlib.Core.Bool.{Bool, true, not, _&&_, cond}
 use mathlib.Core.List.{List, [], _∷_, _++_, map}
 use lib.IntN.{ℤ}
-use lib.ListN.{drop}
+use lib.Dec.{eqb}
+use lib.ListN.{drop, getD}
 use Rattle.laws.specs.Lists.{joined, passing, anyOf}
 use Rattle.runs.specs.Log.{rowCount, rowAt}
 use Rattle.preference.specs.Parts.{levels}
@@ -33,6 +34,10 @@ rowDominates l log s r = dominates (vectorAt l log s) (vectorAt l log r)
 unfoldable pub isBest : PreferenceList → List ℤ → ℕ → Bool
 isBest l log r = competes log r && not (anyOf (λ s. rowDominates l log s r) (competing log))
 
+-- the shortlist: the rows that are best matches, in order
+unfoldable pub bestMatches : PreferenceList → List ℤ → List ℕ
+bestMatches l log = passing (isBest l log) (rowCount log)
+
 -- "A mark is one byte per row, 1 for shortlisted, 0 not."
 abbrev pub markAt : PreferenceList → List ℤ → ℕ → ℕ
 markAt l log r = cond (isBest l log r) 1 0
@@ -43,3 +48,11 @@ marksOf l log = joined (λ r. markAt l log r ∷ []) (rowCount log)
 -- the lent bytes after an accepted call: "Bytes past the rows .. are unchanged."
 unfoldable pub marksAfter : PreferenceList → List ℤ → List ℕ → List ℕ
 marksAfter l log marks = marksOf l log ++ drop (rowCount log) marks
+
+-- the lent bytes after a call that ends with number k, 0 where it is accepted: "Nothing lent changes on a refusal"
+unfoldable pub marksLeft : ℕ → PreferenceList → List ℤ → List ℕ → List ℕ
+marksLeft k l log marks = cond (eqb k 0) (marksAfter l log marks) marks
+
+-- the rows below n that are marked
+unfoldable pub markedRows : List ℕ → ℕ → List ℕ
+markedRows marks n = passing (λ r. eqb (getD marks r 0) 1) n

@@ -1,3 +1,5 @@
 pub mod Dominance
 pub mod Best
+pub mod Marks
 pub mod Table
+pub mod Numbers

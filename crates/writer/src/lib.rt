@@ -15,7 +15,7 @@ ghost use Rattle.laws.specs.Lists.{joined};
 ghost use Rattle.preference.specs.Valid.{listNumber};
 ghost use Rattle.format.specs.Write.{kindFor, constructorBytes, preferenceBytes, namedBytes, intsBytes, runBytes, namedBytesOf, preferencePart, rowBytes};
 ghost use Rattle.format.specs.Write.{streamOf, writeNumber, outAfter, outcomeOf};
-ghost use Rattle.writer.specs.Puts.{Puts};
+ghost use Rattle.word.specs.Puts.{Puts};
 
 // ---- one record. Each of these stores bytes at a place and gives the place after them.
 

@@ -1,5 +1,6 @@
 use borrow.Author.Tests.{eq-eqb, ne-eqb}
-use lib.ListN.{List·getD-eq-default}
+use lib.ListN.{getD, List·getD-eq-default}
+use mathlib.Core.Path.{_≡_}
 use Rattle.nodes.specs.Steps.{byteMark}
 use borrow.Author.Needs.{needs}
 use Prim.Native.Nat.{_-_}
@@ -11,11 +12,17 @@ shared-slice-read-if2 c = search needs
 
 returns : tie.Need-returns
 unfolding byteMark
-returns c = rw (eq-eqb _ _ (c .if2 .taken))
+returns c =
+    let a = c .before .before .before .args in
+    let one : getD (a .nodes .now) (a .x) 0 ≡ 1 = c .if2 .taken in
+    rw (eq-eqb (getD (a .nodes .now) (a .x) 0) 1 one)
 
 returns-2 : tie.Need-returns-2
 unfolding byteMark
-returns-2 c = rw (ne-eqb _ _ (c .if2 .left))
+returns-2 c =
+    let a = c .before .before .before .args in
+    let other : getD (a .nodes .now) (a .x) 0 ≡ 1 → ⊥ = c .if2 .left in
+    rw (ne-eqb (getD (a .nodes .now) (a .x) 0) 1 other)
 
 returns-3 : tie.Need-returns-3
 unfolding byteMark

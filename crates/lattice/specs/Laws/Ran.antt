@@ -19,13 +19,13 @@ use Rattle.preference.specs.Valid.{listNumber}
 use Rattle.preference.specs.Parts.{maxLevels}
 use Rattle.preference.specs.Laws.Parts.{Within}
 use Rattle.preference.specs.declared.PreferenceList.{PreferenceList}
-use Rattle.pareto.specs.Best.{vectors, marksOf, marksAfter}
+use Rattle.pareto.specs.Best.{vectors, marksOf, marksAfter, marksLeft}
 use Rattle.pareto.specs.Checked.{rowsNumber, marksNumber, checkedNumber}
 use Rattle.nodes.specs.Lattice.{nodeCount, crossedAt, crossings, nodeBytes}
 use Rattle.nodes.specs.Steps.{weightsOf}
 use Rattle.nodes.specs.Laws.Some.{All}
 use Rattle.nodes.specs.Laws.Walk.{trail-crossed, bytes-final}
-use Rattle.lattice.specs.Engine.{latticeNumber, marksLeft, nodesLeft, Ran}
+use Rattle.lattice.specs.Engine.{latticeNumber, nodesLeft, Ran}
 use Rattle.lattice.specs.Progress.{rowNodes, crossed, Settles}
 use Rattle.lattice.specs.Laws.Rows.{rows-hold, vectors-within, rows-marked}
 use Rattle.lattice.specs.declared.LatticeAnswer.the-variants.{Crossed, Refused}

@@ -10,6 +10,7 @@ use lib.ListN.{getD}
 use borrow.Author.Tests.{eq-eqb}
 use Rattle.laws.specs.Lists.{anyOf}
 use Rattle.laws.specs.Laws.AnyOf.{any-map, passing-found, passing-any}
+use Rattle.laws.specs.Laws.Bools.{both-ways}
 use Rattle.laws.specs.Laws.First.{number-zero}
 use Rattle.laws.specs.Laws.Joined.{joined-cong, singles-at, singles-length}
 use Rattle.runs.specs.Log.{rowCount, rowAt}
@@ -22,7 +23,7 @@ use Rattle.pareto.specs.Best.{competes, competing, vectorAt, vectors, rowDomina
 use Rattle.pareto.specs.Checked.{rowsNumber}
 use Rattle.nodes.specs.Lattice.{nodeCount, nodeId, held, nodeByte, nodeBytes}
 use Rattle.nodes.specs.Steps.{byteMark, markedBy}
-use Rattle.nodes.specs.Laws.Some.{same, All, all-passing, among, among-one, joined-cases, joined-among}
+use Rattle.nodes.specs.Laws.Some.{All, all-passing, among, among-one, joined-cases, joined-among}
 use Rattle.nodes.specs.Laws.Numbers.{id-small}
 use Rattle.nodes.specs.Laws.Walk.{mark-byte}
 use Rattle.lattice.specs.Progress.{rowNode, rowNodes}
@@ -33,7 +34,7 @@ module _ (l : PreferenceList) (log : List ℤ) where
   unfolding rowNodes held vectors competing competes
   rows-hold y =
       let holds : ℕ → Bool = λ r. eqb (rowNode l log r) y in
-      same (among y (rowNodes l log)) (anyOf holds (competing log))
+      both-ways (among y (rowNodes l log)) (anyOf holds (competing log))
       (λ t.
       let j = joined-cases (λ r. rowNode l log r ∷ []) y (rowCount log) t in
       passing-any holds (competes log) (rowCount log) (j .0) (j .1) refl (sym (among-one y (rowNode l log (j .0))) ∙ j .2))

@@ -3,33 +3,21 @@ use mathlib.Core.Path.{_≡_, refl, sym, ap, _∙_}
 use Prim.Native.Nat.{ℕ, zero, suc, _<_}
 use native.Mathlib.Omega.{arith}
 use native.Mathlib.Nat.{not-suc-le-zero, eq-or-lt-of-le, le-of-suc-le-suc}
-use mathlib.Core.Bool.{Bool, true, false, _||_, cond}
+use mathlib.Core.Bool.{Bool, true, false, _||_, cond, or-assoc}
 use mathlib.Core.List.{List, [], _∷_, _++_, map}
-use mathlib.Core.Logic.{_⊎_, inl, inr, ⊎-elim}
+use mathlib.Core.Logic.{⊎-elim}
 use Rattle.laws.specs.Lists.{joined, passing, anyOf}
-use Rattle.laws.specs.Laws.Bools.{false-true}
-
-either : (a b : Bool) → a || b ≡ true → (a ≡ true) ⊎ (b ≡ true)
-either true b e = inl refl
-either false b e = inr e
-
-or-right : (a b : Bool) → b ≡ true → a || b ≡ true
-or-right true b e = refl
-or-right false b e = e
+use Rattle.laws.specs.Laws.Bools.{false-true, either, or-right}
 
 pub any-map : {A B : Type 0} (p : B → Bool) (f : A → B) (xs : List A) → anyOf p (map f xs) ≡ anyOf (λ x. p (f x)) xs
 unfolding anyOf
 any-map p f [] = refl
 any-map p f (x ∷ xs) = ap (λ (b : Bool). p (f x) || b) (any-map p f xs)
 
-any-append : {A : Type 0} (p : A → Bool) (xs ys : List A) → anyOf p (xs ++ ys) ≡ anyOf p xs || anyOf p ys
+pub any-append : {A : Type 0} (p : A → Bool) (xs ys : List A) → anyOf p (xs ++ ys) ≡ anyOf p xs || anyOf p ys
 unfolding anyOf
 any-append p [] ys = refl
-any-append p (x ∷ xs) ys = rw (any-append p xs ys) (or-assoc (p x) (anyOf p xs) (anyOf p ys))
-  where
-    or-assoc : (a b c : Bool) → a || (b || c) ≡ a || b || c
-    or-assoc true b c = refl
-    or-assoc false b c = refl
+any-append p (x ∷ xs) ys = rw (any-append p xs ys) (sym (or-assoc (p x) (anyOf p xs) (anyOf p ys)))
 
 module _ (p c : ℕ → Bool) where
   -- a number below n that passes c, and at which p holds

@@ -1,6 +1,7 @@
 -- What a test that came out says of its parts.
 use mathlib.Core.Path.{_≡_, refl, sym, subst}
 use mathlib.Core.Bool.{Bool, true, false, _&&_, _||_, and-eq-true-iff}
+use mathlib.Core.Logic.{_⊎_, inl, inr}
 use lib.Dec.{T}
 
 pub false-true : {X : Type 0} → false ≡ true → X
@@ -12,3 +13,17 @@ both a b = and-eq-true-iff a b .0
 pub neither : (a b : Bool) → a || b ≡ false → (a ≡ false) × (b ≡ false)
 neither false b e = (refl, e)
 neither true b e = false-true (sym e)
+
+pub either : (a b : Bool) → a || b ≡ true → (a ≡ true) ⊎ (b ≡ true)
+either true b e = inl refl
+either false b e = inr e
+
+pub or-right : (a b : Bool) → b ≡ true → a || b ≡ true
+or-right true b e = refl
+or-right false b e = e
+
+-- two tests of which each says the other
+pub both-ways : (a b : Bool) → (a ≡ true → b ≡ true) → (b ≡ true → a ≡ true) → a ≡ b
+both-ways true b f g = sym (f refl)
+both-ways false true f g = g refl
+both-ways false false f g = refl

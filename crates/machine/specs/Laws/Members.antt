@@ -4,7 +4,7 @@ use mathlib.Core.Bool.{Bool, true, false, _||_}
 use mathlib.Core.List.{List, [], _∷_, List·Memᴰ, List·Memᴰ·head, List·Memᴰ·tail, List·Memᴰ·not-nil, List·Memᴰ·cases-cons}
 use mathlib.Core.Logic.{⊎-elim}
 use Rattle.laws.specs.Lists.{anyOf}
-use Rattle.laws.specs.Laws.Bools.{false-true}
+use Rattle.laws.specs.Laws.Bools.{false-true, or-right}
 
 module _ {A : Type 0} (p : A → Bool) where
   -- a test that passes shows an element
@@ -26,10 +26,6 @@ module _ {A : Type 0} (p : A → Bool) where
       (λ (q : x ≡ y). rw (sym (ap p q) ∙ h))
       (λ (k : List·Memᴰ x xs). or-right (p y) (anyOf p xs) (member-any xs k h))
       (List·Memᴰ·cases-cons m)
-    where
-      or-right : (a b : Bool) → b ≡ true → a || b ≡ true
-      or-right true b e = refl
-      or-right false b e = e
 
   pub member-none : (xs : List A) → anyOf p xs ≡ false → {x : A} → List·Memᴰ x xs → p x ≡ false
   member-none xs h {x} m = go (p x) refl

@@ -9,8 +9,8 @@ use lib.Arith.{digits-div, digits-mod}
 use lib.Dec.{ltb}
 use lib.ListN.{length, length-append}
 use borrow.Author.Tests.{lt-ltb, le-ltb}
-use Rattle.laws.specs.Lists.{joined}
-use Rattle.nodes.specs.Lattice.{nodeCount, reached, edgesFrom, edges, crossedAt, crossings, boundFrom, bound}
+use Rattle.laws.specs.Lists.{joined, anyOf}
+use Rattle.nodes.specs.Lattice.{nodeCount, held, dominatedNode, reached, edgesFrom, edges, crossedAt, crossings, boundFrom, bound}
 use Rattle.nodes.specs.Laws.Some.{All}
 
 -- f 0 + .. + f (n - 1)
@@ -154,3 +154,13 @@ bound-small tops = bound-from-small (nodeCount tops) tops
 -- at most 8 parts and 32,768 nodes: 262,144 crossings are always enough
 pub crossings-small : (tops : List ℕ) (rows : List (List ℕ)) → length tops ≤ 8 → nodeCount tops ≤ 32768 → crossings tops rows ≤ 262144
 crossings-small tops rows h k = le-trans (crossings-bound tops rows) (le-trans (bound-small tops) (mul-le-mul h k))
+
+none-crossed : (tops : List ℕ) (n : ℕ) → joined (crossedAt tops []) n ≡ []
+unfolding joined crossedAt reached held dominatedNode anyOf
+none-crossed tops zero = refl
+none-crossed tops (suc n) = rw (none-crossed tops n)
+
+-- no row, no crossing
+pub no-rows : (tops : List ℕ) → crossings tops [] ≡ 0
+unfolding crossings
+no-rows tops = rw (none-crossed tops (nodeCount tops))

@@ -1,28 +1,15 @@
 -- Tests over lists: an element that passes one, and a number that is among others.
 use mathlib.Core.Path.{_≡_, refl, sym, _∙_}
 use mathlib.Core.Logic.{_⊎_, inl, inr, ⊎-elim}
-use mathlib.Core.Bool.{Bool, true, false, _||_, cond, or-assoc, or-false}
+use mathlib.Core.Bool.{Bool, true, false, _||_, cond, or-false}
 use mathlib.Core.List.{List, [], _∷_, _++_, map, map-append}
 use Prim.Native.Nat.{ℕ, zero, suc, _<_}
 use native.Mathlib.Nat.{le-of-suc-le-suc, not-suc-le-zero, eq-or-lt-of-le, le-step, lt-suc-self}
 use lib.Dec.{eqb}
 use borrow.Author.Tests.{eqb-true, eq-eqb}
 use Rattle.laws.specs.Lists.{joined, passing, anyOf}
-use Rattle.laws.specs.Laws.Bools.{false-true}
-
-pub either : (a b : Bool) → a || b ≡ true → (a ≡ true) ⊎ (b ≡ true)
-either true b e = inl refl
-either false b e = inr e
-
-pub or-right : (a b : Bool) → b ≡ true → a || b ≡ true
-or-right true b e = refl
-or-right false b e = e
-
--- two tests of which each says the other
-pub same : (a b : Bool) → (a ≡ true → b ≡ true) → (b ≡ true → a ≡ true) → a ≡ b
-same true b f g = sym (f refl)
-same false true f g = g refl
-same false false f g = refl
+use Rattle.laws.specs.Laws.AnyOf.{any-append}
+use Rattle.laws.specs.Laws.Bools.{false-true, either, or-right}
 
 -- what holds of every element
 abbrev pub All : {A : Type 0} → (A → Type 0) → List A → Type 0
@@ -67,9 +54,8 @@ unfoldable pub among : ℕ → List ℕ → Bool
 among y ts = anyOf (λ t. eqb t y) ts
 
 pub among-append : (y : ℕ) (xs ys : List ℕ) → among y (xs ++ ys) ≡ among y xs || among y ys
-unfolding among anyOf
-among-append y [] ys = refl
-among-append y (x ∷ xs) ys = rw (among-append y xs ys) (sym (or-assoc (eqb x y) (among y xs) (among y ys)))
+unfolding among
+among-append y xs ys = any-append (λ t. eqb t y) xs ys
 
 pub among-one : (y x : ℕ) → among y (x ∷ []) ≡ eqb x y
 unfolding among anyOf

@@ -11,10 +11,11 @@ use lib.ListN.{length, getD, set, drop, replicate, length-set, length-replicate}
 use lib.Seq.{getD-set-same, getD-set-other}
 use borrow.Author.Tests.{lt-ltb, le-ltb, ltb-true, eq-eqb, ne-eqb}
 use Rattle.laws.specs.Lists.{anyOf}
+use Rattle.laws.specs.Laws.Bools.{both-ways}
 use Rattle.preference.specs.Laws.Parts.{Within}
 use Rattle.nodes.specs.Lattice.{nodeCount, nodeId, edgesFrom}
 use Rattle.nodes.specs.Steps.{weightsOf, Weights, edgesBy, updated, heldByte, opened, enteredByte}
-use Rattle.nodes.specs.Laws.Some.{same, All, among, all-among}
+use Rattle.nodes.specs.Laws.Some.{All, among, all-among}
 use Rattle.nodes.specs.Laws.Numbers.{nodes-some}
 use Rattle.nodes.specs.Laws.Edges.{edge-raises}
 
@@ -28,7 +29,7 @@ weights-length (m ∷ ms) = ap suc (weights-length ms)
 -- a part's level is below its greatest where the step by its weight stays in its block
 open-test : (m w r : ℕ) → zero < w → ltb (r + w) ((m + 1) * w) ≡ ltb (r / w) m
 open-test m w r p =
-    same (ltb (r + w) ((m + 1) * w)) (ltb (r / w) m)
+    both-ways (ltb (r + w) ((m + 1) * w)) (ltb (r / w) m)
     (λ t.
     let l : r + w < m * w + 1 * w = rw (add-mul m 1 w) at (ltb-true (r + w) ((m + 1) * w) t) in
     lt-ltb (r / w) m (div-lt-iff-lt-mul p .1 (omega (arith, l, one-mul w))))

@@ -3,18 +3,14 @@ use mathlib.Core.Path.{_≡_, refl, sym, _∙_}
 use Prim.Native.Nat.{ℕ, zero, suc, _+_, _<_, _≤_}
 use native.Mathlib.Omega.{arith}
 use native.Mathlib.Nat.{le-trans, lt-irrefl}
-use mathlib.Core.Bool.{Bool, true, false, _||_}
+use mathlib.Core.Bool.{true}
 use mathlib.Core.List.{List, [], _∷_}
-use mathlib.Core.Logic.{_⊎_, inl, inr, ⊎-elim}
+use mathlib.Core.Logic.{⊎-elim}
 use lib.Dec.{leb, ltb}
 use lib.ListN.{length, getD}
 use borrow.Author.Tests.{leb-true, le-leb, ltb-true, lt-ltb}
-use Rattle.laws.specs.Laws.Bools.{both, false-true}
+use Rattle.laws.specs.Laws.Bools.{both, false-true, either, or-right}
 use Rattle.pareto.specs.Dominance.{noneAbove, someBelow, dominates}
-
-either : (a b : Bool) → a || b ≡ true → (a ≡ true) ⊎ (b ≡ true)
-either true b e = inl refl
-either false b e = inr e
 
 -- ---- level by level
 
@@ -48,10 +44,6 @@ module _ where
   below-of (x ∷ a) [] l k h = let z : ⊥ = omega arith in absurd z
   below-of (x ∷ a) (y ∷ b) l zero h = rw (lt-ltb x y h)
   below-of (x ∷ a) (y ∷ b) l (suc k) h = or-right (ltb x y) (someBelow a b) (below-of a b (omega arith) k h)
-    where
-      or-right : (p q : Bool) → q ≡ true → p || q ≡ true
-      or-right true q e = refl
-      or-right false q e = e
 
 -- 000, Def. 15: nowhere a greater level, and somewhere a smaller one
 pub record Pareto (a b : List ℕ) : Type 0 where

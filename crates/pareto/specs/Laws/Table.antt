@@ -11,6 +11,7 @@ use lib.IntN.{ℤ}
 use lib.ListN.{length, getD, List·getD-eq-default}
 use borrow.Author.Tests.{ltb-true, lt-ltb, le-ltb, leb-true, leb-false}
 use Rattle.laws.specs.First.{anyBelow}
+use Rattle.laws.specs.Laws.Bools.{both-ways}
 use Rattle.laws.specs.Laws.First.{any-found, any-at, any-cong, number-zero}
 use Rattle.laws.specs.Laws.Joined.{singles-at, singles-length}
 use Rattle.runs.specs.Log.{rowCount, rowAt}
@@ -37,11 +38,6 @@ none-not (x ∷ v) (y ∷ w) l = head (none-not v w (omega arith)) (leb x y) ref
     head : noneAbove v w ≡ not (someBelow w v) → (t : Bool) → leb x y ≡ t → leb x y && noneAbove v w ≡ not (ltb y x || someBelow w v)
     head h true e = rw (e, le-ltb y x (leb-true x y e)) h
     head h false e = rw (e, lt-ltb y x (leb-false x y e))
-
-both-ways : (a b : Bool) → (a ≡ true → b ≡ true) → (b ≡ true → a ≡ true) → a ≡ b
-both-ways true b f g = sym (f refl)
-both-ways false true f g = g refl
-both-ways false false f g = refl
 
 -- a lower level stands among the first eight
 some-of-eight : (v w : List ℕ) → length v ≡ length w → length w ≤ 8 → anyBelow (λ k. ltb (getD v k 0) (getD w k 0)) 8 ≡ someBelow v w

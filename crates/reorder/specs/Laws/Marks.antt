@@ -2,24 +2,21 @@
 use mathlib.Core.Path.{_≡_, refl, sym, ap, ap₂, _∙_}
 use Prim.Native.Nat.{ℕ, _<_}
 use native.Mathlib.Omega.{arith}
-use mathlib.Core.Bool.{Bool, true, false, not, _&&_, cond}
+use mathlib.Core.Bool.{Bool, true, not, _&&_, cond}
 use mathlib.Core.List.{List}
 use lib.IntN.{ℤ}
-use lib.ListN.{getD, drop, List·getD-append}
+use lib.ListN.{getD}
 use Rattle.laws.specs.Lists.{anyOf}
 use Rattle.laws.specs.Laws.AnyOf.{Found, passing-found, passing-any}
-use Rattle.laws.specs.Laws.Joined.{singles-at, singles-length}
+use Rattle.laws.specs.Laws.Bools.{both-ways}
+use Rattle.laws.specs.Laws.Joined.{singles-at}
 use Rattle.runs.specs.Log.{rowCount, rowAt}
 use Rattle.preference.specs.Parts.{levels}
 use Rattle.preference.specs.declared.PreferenceList.{PreferenceList}
 use Rattle.pareto.specs.Dominance.{dominates}
 use Rattle.pareto.specs.Best.{competes, competing, vectorAt, rowDominates, isBest, markAt, marksOf, marksAfter}
+use Rattle.pareto.specs.Laws.Marks.{mark-there}
 use Rattle.reorder.specs.Reordered.{Reordered}
-
-both-ways : (a b : Bool) → (a ≡ true → b ≡ true) → (b ≡ true → a ≡ true) → a ≡ b
-both-ways true b f g = sym (f refl)
-both-ways false true f g = g refl
-both-ways false false f g = refl
 
 -- whether a row competes is told by the row
 competes-same : (log log′ : List ℤ) (r p : ℕ) → rowAt log′ p ≡ rowAt log r → competes log′ p ≡ competes log r
@@ -77,9 +74,5 @@ module _ (l : PreferenceList) (log log′ : List ℤ) (place origin : ℕ → �
   unfolding marksOf
   marks-same r b = singles-at (markAt l log′) (rowCount log′) (place r) (placed r b) ∙ mark-same r b ∙ sym (singles-at (markAt l log) (rowCount log) r b)
 
-  front : (g : List ℤ) (bytes : List ℕ) (r : ℕ) → r < rowCount g → getD (marksAfter l g bytes) r 0 ≡ getD (marksOf l g) r 0
-  unfolding marksAfter marksOf
-  front g bytes r b = List·getD-append (marksOf l g) (drop (rowCount g) bytes) 0 r (omega (arith, singles-length (markAt l g) (rowCount g)))
-
   pub marks-after-same : (bytes bytes′ : List ℕ) (r : ℕ) → r < rowCount log → getD (marksAfter l log′ bytes′) (place r) 0 ≡ getD (marksAfter l log bytes) r 0
-  marks-after-same bytes bytes′ r b = front log′ bytes′ (place r) (placed r b) ∙ marks-same r b ∙ sym (front log bytes r b)
+  marks-after-same bytes bytes′ r b = mark-there l log′ bytes′ (place r) (placed r b) ∙ mark-same r b ∙ sym (mark-there l log bytes r b)

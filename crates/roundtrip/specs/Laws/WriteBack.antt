@@ -10,7 +10,7 @@ use lib.IntN.{ℤ}
 use lib.ListN.{length, getD, take, drop, length-append, length-set}
 use lib.Seq.{take-add, take-all, drop-drop, getD-drop}
 use borrow.Author.Count.{below-more}
-use borrow.Author.Tests.{ltb-true, ltb-false, not-false, eq-eqb, ne-eqb}
+use borrow.Author.Tests.{ltb-true, ltb-false, not-false, eq-eqb}
 use Rattle.laws.specs.Laws.Bools.{both, neither, false-true}
 use Rattle.laws.specs.Laws.Checks.{then-none}
 use Rattle.constructor.specs.Valid.{layerNumber}
@@ -26,11 +26,12 @@ use Rattle.word.specs.Laws.Word.{Bytes}
 use Rattle.runs.specs.Log.{rowCount}
 use Rattle.runs.specs.Laws.Log.{accepted-rows}
 use Rattle.format.specs.Kinds.{classOf, bodyOf}
-use Rattle.format.specs.Read.{goes, preferenceOf, namedOf, intsAt, lastConstructor, isLayers, endsLayered, outOfPlace, namingNumber, figuresNumber, isUnknown, zeroList, addPreference, addNamed, withRecord, refusedAt, steps, start, records, readOf, valuesUnder, valuesFrom, valuesOf}
+use Rattle.format.specs.Read.{goes, preferenceOf, namedOf, intsAt, lastConstructor, isLayers, endsLayered, outOfPlace, namingNumber, figuresNumber, isUnknown, zeroList, addPreference, addNamed, withRecord, steps, start, records, readOf, valuesUnder, valuesFrom, valuesOf}
 use Rattle.format.specs.Write.{preferenceBytes, namedBytes, runBytes, rowBytes, streamOf}
 use Rattle.format.specs.Laws.Columns.{Columns, columns-zero, columns-few, columns-added}
 use Rattle.format.specs.Laws.Read.{Accepts, accepts, preference-room, named-room, run-room, step-goes, steps-ended}
 use Rattle.format.specs.Laws.Values.{values-end}
+use Rattle.format.specs.Laws.Rows.{refused-stays}
 use Rattle.format.specs.Laws.Accepted.{records-end, read-accepted}
 use Rattle.format.specs.declared.Class.{Class}
 use Rattle.format.specs.declared.Class.the-variants.{Unknown, PreferenceRecord, NamedRecord, RunRecord}
@@ -215,11 +216,6 @@ module _ (s : List ℕ) (v : List ℤ) (r : ReadAnswer) (by : Bytes s) (h : Kept
 kept-of : (s : List ℕ) (r : ReadAnswer) {v w : List ℤ} → v ≡ w → Kept s v r → Kept s w r
 kept-of s r e h = rw e at h
 
-refused-stays : (n : ℕ) (s : List ℕ) (k place : ℕ) → steps n s (refusedAt (suc k) place) .number ≡ 0 → ⊥
-refused-stays n s k place e =
-    let ended : goes s (refusedAt (suc k) place) ≡ false = rw (ne-eqb (suc k) 0 (λ q. absurd (omega arith))) in
-    omega (arith, ap (λ (r : ReadAnswer). r .number) (steps-ended n s (refusedAt (suc k) place) ended))
-
 module _ (s : List ℕ) (by : Bytes s) where
   -- what n more steps keep
   abbrev Keep : ℕ → List ℤ → ReadAnswer → ReadAnswer → Type 0
@@ -271,11 +267,6 @@ unfolding records valuesOf
 kept-whole s by z = kept-steps s by (length s) [] start refl (kept-start s) z
 
 module _ (s : List ℕ) (room : ℕ) (by : Bytes s) (e : readOf s room .number ≡ 0) where
-  pub values-long : length (valuesOf s) ≡ 8 * readOf s room .rows
-  values-long =
-      let a = read-accepted s room e in
-      kept-whole s by (a .going-on) .long ∙ ap (λ (r : ReadAnswer). 8 * r .rows) (sym (a .answer))
-
   pub write-back : WritesAs (readOf s room .list) (valuesOf s) s
   unfolding streamOf
   write-back =

@@ -1,4 +1,5 @@
-use Rattle.writer.specs.Laws.Puts.{puts-byte, puts-int, puts-range, puts-then, puts-same}
+use Rattle.word.specs.Laws.Puts.{puts-byte, puts-then, puts-same}
+use Rattle.writer.specs.Laws.Puts.{puts-int, puts-range}
 use mathlib.Core.Path.{sym, ap, refl}
 use Rattle.word.specs.Word.{wordBytes, intBytes}
 use Rattle.format.specs.Write.{constructorBytes}

@@ -5,8 +5,9 @@ use lib.ListN.{getD, take, length-take, length}
 use lib.Seq.{take-all}
 use Rattle.format.specs.Write.{intsBytes}
 use Rattle.format.specs.Laws.Lengths.{ints-long}
-use Rattle.writer.specs.Puts.{Puts}
-use Rattle.writer.specs.Laws.Puts.{puts-none, puts-int, puts-then, puts-same, puts-length, ints-turn}
+use Rattle.word.specs.Puts.{Puts}
+use Rattle.word.specs.Laws.Puts.{puts-none, puts-then, puts-same, puts-length}
+use Rattle.writer.specs.Laws.Puts.{puts-int, ints-turn}
 use borrow.Author.Needs.{needs}
 use native.Mathlib.Omega.{arith}
 use Prim.Native.Nat.{_≤_, _-_}

@@ -1,6 +1,7 @@
 use mathlib.Core.Path.{refl}
 use Rattle.format.specs.Write.{namedBytes}
-use Rattle.writer.specs.Laws.Puts.{puts-byte, puts-int, puts-then}
+use Rattle.word.specs.Laws.Puts.{puts-byte, puts-then}
+use Rattle.writer.specs.Laws.Puts.{puts-int}
 use borrow.Author.Needs.{needs}
 use native.Mathlib.Omega.{arith}
 use Rattle.writer.proofs.put_named.Statement.{statement}

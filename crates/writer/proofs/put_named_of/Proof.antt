@@ -1,7 +1,7 @@
 use Rattle.preference.specs.List.{namedAt}
 use mathlib.Core.Path.{sym, _∙_}
 use borrow.Author.Tests.{eq-eqb, ne-eqb}
-use Rattle.writer.specs.Laws.Puts.{puts-none, puts-same}
+use Rattle.word.specs.Laws.Puts.{puts-none, puts-same}
 use borrow.Author.Needs.{needs}
 use Rattle.writer.proofs.put_named_of.Statement.{statement}
 use Rattle.writer.proofs.put_named_of.Tie as tie

@@ -2,8 +2,8 @@ use mathlib.Core.Path.{_≡_}
 use Rattle.laws.specs.Lists.{joined}
 use Rattle.format.specs.Write.{namedBytesOf}
 use Rattle.format.specs.Laws.Lengths.{names-short}
-use Rattle.writer.specs.Puts.{Puts}
-use Rattle.writer.specs.Laws.Puts.{puts-none, puts-turn, puts-length}
+use Rattle.word.specs.Puts.{Puts}
+use Rattle.word.specs.Laws.Puts.{puts-none, puts-turn, puts-length}
 use borrow.Author.Needs.{needs}
 use native.Mathlib.Omega.{arith}
 use Prim.Native.Nat.{_≤_, _-_}

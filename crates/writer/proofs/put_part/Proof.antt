@@ -1,7 +1,7 @@
 use Rattle.format.specs.Write.{preferencePart}
 use Rattle.format.specs.Laws.Lengths.{preference-short}
 use Rattle.preference.specs.List.{preferenceAt}
-use Rattle.writer.specs.Laws.Puts.{puts-then}
+use Rattle.word.specs.Laws.Puts.{puts-then}
 use borrow.Author.Needs.{needs}
 use native.Mathlib.Omega.{arith}
 use Rattle.writer.proofs.put_part.Statement.{statement}

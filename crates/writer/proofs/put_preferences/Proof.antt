@@ -1,9 +1,9 @@
 use mathlib.Core.Path.{ap, _≡_}
-use Rattle.writer.specs.Laws.Puts.{puts-none, puts-turn, puts-same, puts-length}
+use Rattle.word.specs.Laws.Puts.{puts-none, puts-turn, puts-same, puts-length}
 use Rattle.laws.specs.Lists.{joined}
 use Rattle.format.specs.Write.{preferencePart}
 use Rattle.format.specs.Laws.Lengths.{parts-short}
-use Rattle.writer.specs.Puts.{Puts}
+use Rattle.word.specs.Puts.{Puts}
 use borrow.Author.Needs.{needs}
 use native.Mathlib.Omega.{arith}
 use Prim.Native.Nat.{_≤_, _-_}

@@ -1,4 +1,5 @@
-use Rattle.writer.specs.Laws.Puts.{puts-word, puts-int, puts-then}
+use Rattle.word.specs.Laws.Puts.{puts-word, puts-then}
+use Rattle.writer.specs.Laws.Puts.{puts-int}
 use borrow.Author.Needs.{needs}
 use native.Mathlib.Omega.{arith}
 use mathlib.Core.Path.{refl}

@@ -2,7 +2,7 @@ use mathlib.Core.Path.{ap, _≡_}
 use denote.Ref.{now}
 use lib.ListN.{take, drop, length-take}
 use Rattle.format.specs.Write.{runBytes}
-use Rattle.writer.specs.Laws.Puts.{puts-same}
+use Rattle.word.specs.Laws.Puts.{puts-same}
 use borrow.Author.Needs.{needs}
 use native.Mathlib.Omega.{arith}
 use Prim.Native.Nat.{ℕ, _-_, _+_, _*_}

@@ -1,6 +1,6 @@
 use mathlib.Core.Path.{refl}
 use Rattle.format.specs.Write.{runBytes}
-use Rattle.writer.specs.Laws.Puts.{puts-byte, puts-then}
+use Rattle.word.specs.Laws.Puts.{puts-byte, puts-then}
 use borrow.Author.Needs.{needs}
 use Rattle.writer.proofs.put_run.Statement.{statement}
 use Rattle.writer.proofs.put_run.Tie as tie

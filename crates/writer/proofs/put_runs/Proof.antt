@@ -4,8 +4,8 @@ use Rattle.runs.specs.Log.{rowCount}
 use Rattle.laws.specs.Lists.{joined}
 use Rattle.format.specs.Write.{rowBytes}
 use Rattle.format.specs.Laws.Lengths.{rows-short}
-use Rattle.writer.specs.Puts.{Puts}
-use Rattle.writer.specs.Laws.Puts.{puts-none, puts-turn, puts-same, puts-length}
+use Rattle.word.specs.Puts.{Puts}
+use Rattle.word.specs.Laws.Puts.{puts-none, puts-turn, puts-same, puts-length}
 use borrow.Author.Needs.{needs}
 use native.Mathlib.Omega.{arith}
 use Prim.Native.Nat.{_≤_, _-_}

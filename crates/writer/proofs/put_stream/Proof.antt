@@ -3,7 +3,7 @@ use Rattle.runs.specs.Laws.Log as runs
 use Rattle.preference.specs.Laws.Valid as preferences
 use Rattle.format.specs.Write.{streamOf}
 use Rattle.format.specs.Laws.Lengths.{parts-short}
-use Rattle.writer.specs.Laws.Puts.{puts-then}
+use Rattle.word.specs.Laws.Puts.{puts-then}
 use borrow.Author.Needs.{needs}
 use native.Mathlib.Omega.{arith}
 use Rattle.writer.proofs.put_stream.Statement.{statement}

@@ -1,32 +1,18 @@
--- Stores one after the other.
+-- Stores of signed numbers, which are held as their bits.
 use mathlib.Core.Path.{_≡_, refl, sym, ap, _∙_}
 use Prim.Native.Nat.{ℕ, _+_, _<_}
-use native.Mathlib.Omega.{arith}
 use native.Mathlib.Numerals.{add-one}
 use mathlib.Core.List.{List, [], _∷_, _++_, append-assoc, append-nil}
-use lib.ListN.{length, getD, set, take, length-append}
+use lib.ListN.{length, getD, take}
 use lib.IntN.{ℤ, pos}
 use lib.Signed.{mag}
-use lib.Seq.{sets, length-sets, take-suc}
+use lib.Seq.{sets, take-suc}
 use mir.Syntax.{w32}
 use mir.Val.{toZ, ofZ}
 use Rattle.arith.specs.Laws.Local.{num}
 use Rattle.word.specs.Word.{wordBytes, intBytes}
-use Rattle.laws.specs.Laws.Stores.{sets-append}
-use Rattle.laws.specs.Lists.{joined}
 use Rattle.format.specs.Write.{intsBytes}
-use Rattle.writer.specs.Puts.{Puts}
-
-pub puts-none : (out : List ℕ) (at : ℕ) → Puts out out at at []
-puts-none out at = record { next-is = omega arith; last-is = refl }
-
--- one figure, by the functions of `word`
-pub puts-byte : {out last : List ℕ} {at next b : ℕ} → next ≡ at + 1 → last ≡ set out at b → Puts out last at next (b ∷ [])
-puts-byte n e = record { next-is = n; last-is = e }
-
-pub puts-word : (u : ℕ) {out last : List ℕ} {at next : ℕ} → next ≡ at + 4 → last ≡ sets out at (wordBytes u) → Puts out last at next (wordBytes u)
-unfolding wordBytes
-puts-word u n e = record { next-is = n; last-is = e }
+use Rattle.word.specs.Puts.{Puts}
 
 -- a signed number is held as its bits
 pub puts-int : (v : ℤ) {out last : List ℕ} {at next : ℕ} → mag v < 2147483648 → next ≡ at + 4 → last ≡ sets out at (intBytes (toZ w32 (ofZ w32 v))) → Puts out last at next (intBytes v)
@@ -37,25 +23,6 @@ pub puts-range : (lo hi : ℤ) (step : ℕ) {out last : List ℕ} {at next : ℕ
     → Puts out last at next (intBytes (toZ w32 (ofZ w32 lo)) ++ intBytes (toZ w32 (ofZ w32 hi)) ++ wordBytes step)
     → Puts out last at next (intBytes lo ++ intBytes hi ++ wordBytes step)
 puts-range lo hi step f g p = rw (num lo f, num hi g) at p
-
-pub puts-then : {out mid last : List ℕ} {at next end : ℕ} {x y : List ℕ} → Puts out mid at next x → Puts mid last next end y → Puts out last at end (x ++ y)
-puts-then {out} {mid} {last} {at} {next} {end} {x} {y} p q =
-    record {
-      next-is = q .next-is ∙ omega (arith, p .next-is, length-append x y);
-      last-is = q .last-is ∙ ap (λ (k : ℕ). sets mid k y) (p .next-is) ∙ ap (λ (m : List ℕ). sets m (at + length x) y) (p .last-is) ∙ sym (sets-append out at x y);
-    }
-
--- one turn of a loop
-pub puts-turn : (f : ℕ → List ℕ) (k : ℕ) {out mid last : List ℕ} {at next end : ℕ} → Puts out mid at next (joined f k) → Puts mid last next end (f k) → Puts out last at end (joined f (k + 1))
-unfolding joined
-puts-turn f k p q = rw (add-one k) (puts-then p q)
-
-pub puts-same : {out last : List ℕ} {at next : ℕ} {x y : List ℕ} → x ≡ y → Puts out last at next x → Puts out last at next y
-puts-same e p = rw e at p
-
--- stores keep the length
-pub puts-length : {out last : List ℕ} {at next : ℕ} {x : List ℕ} → Puts out last at next x → length last ≡ length out
-puts-length {out} {last} {at} {next} {x} p = ap length (p .last-is) ∙ length-sets out at x
 
 -- one number more
 ints-append : (a b : List ℤ) → intsBytes (a ++ b) ≡ intsBytes a ++ intsBytes b

@@ -1,4 +1,4 @@
--- What each storing function of the writer does.
+-- What each storing function does.
 use mathlib.Core.Path.{_≡_}
 use Prim.Native.Nat.{ℕ, _+_}
 use mathlib.Core.List.{List}
