@@ -11,6 +11,7 @@ use Rattle.machine.specs.Laws.Lists.{keep-none}
 use Rattle.machine.specs.Machine.{Entry, State, keep, marked, older, younger, release, dominated, compares, spares, tick, remove, enter, setAside, place, judge, read}
 use Rattle.bnl.specs.Work.{entries, putEntry, stateOf, stateAt, Filtered, Released, Scanned, Ready, Judged, Read}
 use Rattle.bnl.specs.declared.Standing.{Standing}
+use Rattle.bnl.specs.declared.Verdict.{Verdict}
 use Rattle.bnl.proofs.Entries.{length-entries, entries-agree, entries-put, entries-put0, put-other}
 
 compares-held : (dom : ℕ → ℕ → Bool) (r : ℕ) (l : List ℕ) (i n : ℕ) → compares dom r (entries l i n) ≤ n
@@ -64,20 +65,20 @@ module _ (w s : ℕ) (l l′ m m′ : List ℕ) (held held′ aside clock count 
 
 -- ---- the three ways of a row that is judged, each from what the engine's functions ensure
 
-module _ {dom : ℕ → ℕ → Bool} {w r size n : ℕ} {l flags : List ℕ} {p : Standing} {b : Bool}
-    (g : Ready w (length l) size p) (v : Scanned dom r l (p .held) flags b n) where
-  pub compared-few : n ≤ 1024
+module _ {dom : ℕ → ℕ → Bool} {w r size : ℕ} {l flags : List ℕ} {p : Standing} {u : Verdict}
+    (g : Ready w (length l) size p) (v : Scanned dom r l (p .held) flags u) where
+  pub compared-few : u .compares ≤ 1024
   compared-few = omega (arith, v .count-is, compares-held dom r l 0 (p .held), g .fit, g .narrow)
 
-  pub judged-drop : b ≡ true → Judged dom w r l p l (record { held = p .held; overflow = p .overflow; clock = p .clock + 1; count = p .count + n })
+  pub judged-drop : u .dropped ≡ true → Judged dom w r l p l (record { held = p .held; overflow = p .overflow; clock = p .clock + 1; count = p .count + u .compares })
   judged-drop q = record {
     state = λ m. rw (v .count-is) (judge-drop dom w r l m (p .held) (p .overflow) (p .clock) (p .count) (sym (v .dropped-is) ∙ q));
     onward = record { fit = g .fit; few = omega arith; ticks = refl; small = omega (arith, compared-few); rest = λ j i. refl };
   }
 
-  module _ {l₁ l₂ : List ℕ} {held : ℕ} (q : b ≡ false) (f : Filtered (spares dom r) l l₁ (p .held) held) where
+  module _ {l₁ l₂ : List ℕ} {held : ℕ} (q : u .dropped ≡ false) (f : Filtered (spares dom r) l l₁ (p .held) held) where
     pub judged-enter : held < w → l₂ ≡ putEntry l₁ held r (p .clock + 1)
-        → Judged dom w r l p l₂ (record { held = held + 1; overflow = p .overflow; clock = p .clock + 1; count = p .count + n })
+        → Judged dom w r l p l₂ (record { held = held + 1; overflow = p .overflow; clock = p .clock + 1; count = p .count + u .compares })
     judged-enter h t = record {
       state = λ m.
           rw (t, v .count-is) (judge-enter dom w r l m (p .held) (p .overflow) (p .clock) (p .count) l₁ held (g .fit) (sym (v .dropped-is) ∙ q) f h (omega (arith, f .long, g .room)));
@@ -91,7 +92,7 @@ module _ {dom : ℕ → ℕ → Bool} {w r size n : ℕ} {l flags : List ℕ} {p
     }
 
     pub judged-aside : w ≤ held → l₂ ≡ putEntry l₁ (w + p .overflow) r (p .clock + 1)
-        → Judged dom w r l p l₂ (record { held = held; overflow = p .overflow + 1; clock = p .clock + 1; count = p .count + n })
+        → Judged dom w r l p l₂ (record { held = held; overflow = p .overflow + 1; clock = p .clock + 1; count = p .count + u .compares })
     judged-aside h t = record {
       state = λ m.
           rw (t, v .count-is) (judge-aside dom w r l m (p .held) (p .overflow) (p .clock) (p .count) l₁ held (g .fit) (sym (v .dropped-is) ∙ q) f h (omega (arith, f .long, g .room)));

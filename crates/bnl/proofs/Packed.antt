@@ -1,12 +1,13 @@
 -- A work list filtered in place, entry by entry; and the marks that its entries still make.
-use Prim.Native.Nat.{ℕ, _+_, _-_, _*_, _≤_, _<_}
+use Prim.Native.Nat.{ℕ, zero, suc, _+_, _-_, _*_, _≤_, _<_}
 use native.Mathlib.Omega.{arith}
 use mathlib.Core.Path.{_≡_, refl, sym, ap, ap₂, subst, _∙_}
 use mathlib.Core.Bool.{Bool, true, false}
 use mathlib.Core.List.{List, [], _∷_, _++_, append-nil, append-assoc}
 use lib.ListN.{getD, set, length}
+use borrow.Author.Tests.{not-false}
 use Rattle.machine.specs.Machine.{Entry, keep, marked}
-use Rattle.bnl.specs.Work.{entryAt, entries, putEntry, Filtered}
+use Rattle.bnl.specs.Work.{entryAt, entries, putEntry, every, Flags, Filtered}
 use Rattle.bnl.proofs.Entries.{entries-step, entries-done, length-put, put-other, entries-put0}
 
 -- l is l₀ with its first i of n entries packed by the test p: m of them stay
@@ -99,3 +100,19 @@ pack-filtered p l₀ l n i m h z = record { few = omega (arith, z .ordered, z .w
 pub mark-all-end : (l : List ℕ) (n i : ℕ) (m : List ℕ) → n ≤ i → marked (entries l i (n - i)) m ≡ m
 unfolding marked
 mark-all-end l n i m h = rw (entries-done l i n h)
+
+-- ---- nothing is taken out
+
+keep-every : (p : Entry → Bool) (l : List ℕ) (i n : ℕ) → ((j : ℕ) → j < i + n → p (entryAt l j) ≡ true) → keep p (entries l i n) ≡ entries l i n
+unfolding keep entries
+keep-every p l i zero h = refl
+keep-every p l i (suc n) h = rw (h i (omega arith)) (ap (λ (es : List Entry). entryAt l i ∷ es) (keep-every p l (suc i) n (λ j k. h j (omega arith))))
+
+pub unfiltered : (p : Entry → Bool) (l : List ℕ) (n : ℕ) (flags : List ℕ) → Flags every l n flags → Flags p l n flags → Filtered p l l n n
+unfolding every
+unfiltered p l n flags none f = record {
+  few = omega arith;
+  long = refl;
+  kept = sym (keep-every p l 0 n (λ j k. not-false (p (entryAt l j)) (sym (f j (omega arith)) ∙ none j (omega arith))));
+  rest = λ j k. refl;
+}

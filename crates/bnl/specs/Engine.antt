@@ -1,7 +1,7 @@
 -- Document 01, "Window machine": the window engine's call over a list and a log.
 use Prim.Native.Nat.{ℕ, _+_, _*_}
 use mathlib.Core.Path.{_≡_}
-use mathlib.Core.Bool.{_||_, cond}
+use mathlib.Core.Bool.{_||_}
 use mathlib.Core.List.{List}
 use lib.Dec.{ltb, eqb}
 use lib.IntN.{ℤ}
@@ -10,7 +10,7 @@ use Rattle.laws.specs.Checks.{_gives_, _then_}
 use Rattle.laws.specs.Outcome.{Outcome, accepted, refused, outcome}
 use Rattle.runs.specs.Log.{rowCount}
 use Rattle.preference.specs.declared.PreferenceList.{PreferenceList}
-use Rattle.pareto.specs.Best.{competing, rowDominates, marksAfter}
+use Rattle.pareto.specs.Best.{competing, rowDominates, marksLeft}
 use Rattle.pareto.specs.Checked.{marksNumber, checkedNumber}
 use Rattle.machine.specs.Machine.{State, machine}
 use Rattle.bnl.specs.declared.WindowAnswer.{WindowAnswer}
@@ -36,5 +36,5 @@ outcomeOf (Refused k) = refused k
 -- what a call answers and leaves: "The work list .. is free after an accepted call."
 pub record Answered (l : PreferenceList) (log : List ℤ) (w : ℕ) (marks marks′ work work′ : List ℕ) (r : WindowAnswer) : Type 0 where
   pub answer : outcomeOf r ≡ outcome (windowNumber l log (length marks) (length work) w) (machineOf l log w .count)
-  pub marks-after : marks′ ≡ cond (eqb (windowNumber l log (length marks) (length work) w) 0) (marksAfter l log marks) marks
+  pub marks-after : marks′ ≡ marksLeft (windowNumber l log (length marks) (length work) w) l log marks
   pub work-unchanged : (windowNumber l log (length marks) (length work) w ≡ 0 → ⊥) → work′ ≡ work

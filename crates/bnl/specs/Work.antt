@@ -10,6 +10,7 @@ use Rattle.laws.specs.Lists.{passing}
 use Rattle.pareto.specs.Table.{compared}
 use Rattle.machine.specs.Machine.{Entry, State, keep, marked, older, younger, dominated, compares, spares, judge, read, pass, passes}
 use Rattle.bnl.specs.declared.Standing.{Standing}
+use Rattle.bnl.specs.declared.Verdict.{Verdict}
 
 -- row a of a level table dominates row b
 unfoldable pub tableDominates : List ℕ → ℕ → ℕ → Bool
@@ -58,11 +59,16 @@ pub record Released (s : ℕ) (l l′ : List ℕ) (n m : ℕ) (marks marks′ : 
 abbrev pub Flags : (Entry → Bool) → List ℕ → ℕ → List ℕ → Type 0
 Flags p l n flags = (j : ℕ) → j < n → eqb (getD flags j 0) 2 ≡ not (p (entryAt l j))
 
+-- the test that takes no entry out
+unfoldable pub every : Entry → Bool
+every e = true
+
 -- row r was compared with the first n entries
-pub record Scanned (dom : ℕ → ℕ → Bool) (r : ℕ) (l : List ℕ) (n : ℕ) (flags : List ℕ) (dropped : Bool) (count : ℕ) : Type 0 where
-  pub dropped-is : dropped ≡ dominated dom r (entries l 0 n)
-  pub count-is : count ≡ compares dom r (entries l 0 n)
-  pub flags-are : dropped ≡ false → Flags (spares dom r) l n flags
+pub record Scanned (dom : ℕ → ℕ → Bool) (r : ℕ) (l : List ℕ) (n : ℕ) (flags : List ℕ) (v : Verdict) : Type 0 where
+  pub dropped-is : v .dropped ≡ dominated dom r (entries l 0 n)
+  pub count-is : v .compares ≡ compares dom r (entries l 0 n)
+  pub flags-are : v .dropped ≡ false → Flags (spares dom r) l n flags
+  pub none-are : v .dropped ≡ false → v .dominates ≡ false → Flags every l n flags
 
 -- there is room for one more entry, and no number is near its end
 pub record Ready (w size flags : ℕ) (p : Standing) : Type 0 where

@@ -2,12 +2,12 @@
 use preference::PreferenceList;
 ghost use mathlib.Core.Path.{_≡_};
 ghost use Prim.Native.Nat.{ℕ, _+_, _*_, _/_, _<_, _≤_};
-ghost use mathlib.Core.Bool.{Bool};
+ghost use mathlib.Core.Bool.{Bool, false};
 ghost use mathlib.Core.List.{map};
 ghost use lib.ListN.{getD, set, length, replicate};
 ghost use Rattle.machine.specs.Machine.{Entry, marked, unread, machine};
 ghost use Rattle.pareto.specs.Best.{marksAfter};
-ghost use Rattle.bnl.specs.Work.{tableDominates, allRows, entries, putEntry, Filtered, Released, Flags, Scanned, Ready, Judged, Read, PassReady, Passed, RunReady, Ran};
+ghost use Rattle.bnl.specs.Work.{tableDominates, allRows, entries, putEntry, Filtered, Released, every, Flags, Scanned, Ready, Judged, Read, PassReady, Passed, RunReady, Ran};
 ghost use Rattle.bnl.specs.Engine.{sizesNumber, machineOf, Answered};
 ghost use Rattle.bnl.specs.Laws.Accepted.{Accepted};
 
@@ -51,40 +51,50 @@ fn mark(marks: &mut [u8], row: usize)
 
 // ---- reading one row
 
-// Whether a row is dropped, and how many compares told so.
+// Whether a row is dropped, whether it dominates an entry, and how many compares told so.
 pub struct Verdict {
     pub dropped: bool,
+    pub dominates: bool,
     pub compares: usize,
 }
 
-// Compares a row with the window's entries in order, until one dominates it. Each compare is kept as a flag for `remove`.
+// Compares a row with the window's entries, the oldest that is left first, until one dominates it. Each compare is kept as a flag for
+// `remove`.
 fn scan(table: &[u16], work: &[u32], held: usize, row: u32, flags: &mut [u8]) -> Verdict
     requires { ⌜ (held ≤ 1024) × (held ≤ length (now flags)) ⌝ }
-    ensures { λ v. ⌜ Scanned (tableDominates (now (table .entry))) row (now (work .entry)) held (now (flags .exit)) (v .dropped) (v .compares) ⌝ }
+    ensures { λ v. ⌜ Scanned (tableDominates (now (table .entry))) row (now (work .entry)) held (now (flags .exit)) v ⌝ }
 {
-    let mut i: usize = 0;
-    while i < held {
-        let relation = pareto::compare(table, word(work, 2 * i) as usize, row as usize);
+    let mut dominates = false;
+    let mut left = held;
+    while 0 < left {
+        let at = held - left;
+        let relation = pareto::compare(table, word(work, 2 * at) as usize, row as usize);
         if relation == 1 {
             return Verdict {
                 dropped: true,
-                compares: i + 1,
+                dominates,
+                compares: at + 1,
             };
         }
-        flags[i] = relation;
-        i += 1;
+        dominates = dominates | (relation == 2);
+        flags[at] = relation;
+        left -= 1;
     }
     Verdict {
         dropped: false,
-        compares: i,
+        dominates,
+        compares: held,
     }
 }
 
-// Removes the entries whose flag is 2; how many stay comes back.
-fn remove(flags: &[u8], work: &mut [u32], held: usize) -> usize
-    requires { ⌜ (held ≤ 1024) × (held ≤ length (now flags)) × (2 * held ≤ length (now work)) ⌝ }
+// Removes the entries whose flag is 2, where there is `some`; how many stay comes back.
+fn remove(flags: &[u8], work: &mut [u32], held: usize, some: bool) -> usize
+    requires { ⌜ (held ≤ 1024) × (held ≤ length (now flags)) × (2 * held ≤ length (now work)) × (some ≡ false → Flags every (now work) held (now flags)) ⌝ }
     ensures { λ m. ⌜ ((p : Entry → Bool) → Flags p (now (work .entry)) held (now (flags .entry)) → Filtered p (now (work .entry)) (now (work .exit)) held m) ⌝ }
 {
+    if !some {
+        return held;
+    }
     let mut i: usize = 0;
     let mut m: usize = 0;
     while i < held {
@@ -155,7 +165,7 @@ fn judge(
             count,
         };
     }
-    let held = remove(flags, work, p.held);
+    let held = remove(flags, work, p.held, verdict.dominates);
     if held < w {
         put_entry(work, held, row, clock);
         return Standing {

@@ -5,14 +5,16 @@ ghost use mathlib.Core.Path.{_≡_};
 ghost use Prim.Native.Nat.{_<_, _≤_, _-_, min};
 ghost use lib.IntN.{pos};
 ghost use lib.ListN.{getD, length};
+ghost use mathlib.Core.Bool.{not};
+ghost use Rattle.constructor.specs.Level.{inside};
 ghost use Rattle.constructor.specs.Valid.{layerNumber};
-ghost use Rattle.laws.specs.Checks.{_then_};
+ghost use Rattle.laws.specs.Checks.{_gives_, _then_};
 ghost use Rattle.laws.specs.First.{firstNumber, firstAt};
 ghost use Rattle.laws.specs.Outcome.{outcome};
 ghost use Rattle.preference.specs.List.{preferenceAt, places, names};
 ghost use Rattle.preference.specs.Valid.{taken, columnNumber, preferenceNumber, placeNumber, namedNumber, listNumber};
 ghost use Rattle.preference.specs.Level.{isNamed, layerOf, levelAt, maxAt, valueNumber, levelNumber, outcomeOf};
-ghost use Rattle.preference.specs.Parts.{levels, maxLevels, rowValue, rowNumber};
+ghost use Rattle.preference.specs.Parts.{levels, maxLevels, rowNumber};
 
 // A wish: the column that it is about, and its form.
 pub struct Preference {
@@ -308,22 +310,19 @@ fn held_places(list: PreferenceList) -> usize
     at_most_8(list.count as usize)
 }
 
-fn column_at(list: PreferenceList, i: usize) -> usize
-    ensures { λ r. ⌜ r ≡ preferenceAt list i .column ⌝ }
-{
-    if 8 <= i {
-        return 0;
-    }
-    let p = list.preferences[i];
-    let column = p.column;
-    wide(column)
-}
-
 // The value at a column of a run; 0 past the run's end.
 fn value_in(row: &[i32], column: usize) -> i32
     ensures { λ r. ⌜ r ≡ getD (now (row .entry)) column (pos 0) ⌝ }
 {
     if column < row.len() { row[column] } else { 0 }
+}
+
+// The value of a run in the column of a preference.
+fn run_value(p: Preference, row: &[i32]) -> i32
+    ensures { λ r. ⌜ r ≡ getD (now (row .entry)) (p .column) (pos 0) ⌝ }
+{
+    let column = p.column;
+    value_in(row, wide(column))
 }
 
 // The number of the parts of every level vector.
@@ -333,15 +332,21 @@ pub fn parts(list: PreferenceList) -> usize
     held_places(list)
 }
 
-// Part k of the level vector of a run; 0 past the last.
+// Part k of the level vector of a run; 0 past the last. Engines ask for every part of every run: only a named value needs the whole list.
 pub fn part_level(list: PreferenceList, row: &[i32], k: usize) -> u64
     ensures { λ r. ⌜ r ≡ getD (levels list (now (row .entry))) k 0 ⌝ }
 {
     if held_places(list) <= k {
         return 0;
     }
-    let v = value_in(row, column_at(list, k));
-    level_at(list, k, v)
+    let p = list.preferences[k];
+    let v = run_value(p, row);
+    let c = p.constructor;
+    let y = constructor::layering_of(c);
+    match y {
+        Layering::Numeric => constructor::level_of(c, v),
+        Layering::Layers { top: _, others } => layer_of(list, k, v, others) as u64,
+    }
 }
 
 // The greatest level of part k; 0 past the last.
@@ -354,12 +359,13 @@ pub fn part_max(list: PreferenceList, k: usize) -> u64
     max_at(list, k)
 }
 
-// 8 where the run's value lies outside the bounds of the preference at place i.
-fn row_value_number(list: PreferenceList, row: &[i32], i: usize) -> u8
-    ensures { λ r. ⌜ r ≡ valueNumber list i (rowValue list (now (row .entry)) i) ⌝ }
+// 8 where the run's value lies outside the bounds of a preference.
+fn run_number(p: Preference, row: &[i32]) -> u8
+    ensures { λ r. ⌜ r ≡ not (inside (p .constructor) (getD (now (row .entry)) (p .column) (pos 0))) gives 8 ⌝ }
 {
-    let v = value_in(row, column_at(list, i));
-    value_number(list, i, v)
+    let v = run_value(p, row);
+    let c = p.constructor;
+    if constructor::is_inside(c, v) { 0 } else { 8 }
 }
 
 // 8 where a value of the run lies outside the bounds of its preference, or 0.
@@ -369,7 +375,8 @@ pub fn row_number(list: PreferenceList, row: &[i32]) -> u8
     let n = held_places(list);
     let mut i: usize = 0;
     while i < n {
-        let k = row_value_number(list, row, i);
+        let p = list.preferences[i];
+        let k = run_number(p, row);
         if k != 0 {
             return k;
         }

@@ -1,3 +1,6 @@
+use mathlib.Core.Path.{_≡_}
+use mathlib.Core.Bool.{true, _||_}
+use lib.Dec.{eqb, ltb}
 use borrow.Author.Tests.{lt-ltb, le-ltb}
 use Rattle.laws.specs.Checks.{_gives_, _then_}
 use Rattle.bnl.specs.Engine.{sizesNumber}
@@ -12,7 +15,10 @@ returns c = rw (lt-ltb _ _ (c .if1 .taken))
 
 returns-2 : tie.Need-returns-2
 unfolding sizesNumber _gives_ _then_
-returns-2 c = rw (le-ltb _ _ (c .before .if1 .left), c .if2 .taken)
+returns-2 c = rw (le-ltb _ _ (c .before .if1 .left), outside)
+  where
+    outside : (eqb (c .before .before .args .w) 0 || ltb 1024 (c .before .before .args .w)) ≡ true
+    outside = c .if2 .taken
 
 add-if3 : tie.Need-add-if3
 add-if3 c = search needs
