@@ -1,14 +1,8 @@
-// Tries the lattice engine on the examples of document 000 and the Harbour log, and on generated logs against a model written apart.
-// The file stdout holds what the documents say of the examples, and no difference elsewhere.
-mod answers;
-mod logs;
+// Tries the lattice engine on generated logs against a model written apart, and says which cases came.
 mod model;
+mod spread;
 mod trials;
-mod vectors;
 
 fn main() {
-    vectors::example();
-    vectors::counts();
-    vectors::harbour();
     trials::generated();
 }

@@ -1,52 +1,17 @@
-// Marks, node bytes and crossings, found from the parts of level vectors by comparing every row and every node with every row.
-// Level vectors lie in tables of eight parts each.
+// Node bytes and crossings, found by comparing every node with every row. Level vectors lie in tables of eight parts each.
 ghost use Prim.Native.Nat.{_<_, _≤_};
-ghost use lib.ListN.{length};
+use generated::nested;
 use preference::PreferenceList;
 
-fn get(t: &[u32], at: usize) -> u32 {
-    if at < t.len() { t[at] } else { 0 }
-}
-
-fn put(t: &mut [u32], at: usize, v: u32) {
-    if at < t.len() {
-        t[at] = v;
+fn put(digits: &mut [u32], at: usize, v: u32) {
+    if at < digits.len() {
+        digits[at] = v;
     }
 }
 
-fn value(log: &[i32], at: usize) -> i32 {
-    if at < log.len() { log[at] } else { 0 }
-}
-
-// ---- levels
-
-fn copy_row(log: &[i32], start: usize, row: &mut [i32])
-    requires { ⌜ (start < 10000) × (length (now row) ≤ 8) ⌝ }
-{
-    let mut j: usize = 0;
-    while j < row.len() {
-        row[j] = value(log, start + j);
-        j += 1;
-    }
-}
-
-fn level_at(list: PreferenceList, log: &[i32], i: usize) -> u32
-    requires { ⌜ i < 10000 ⌝ }
-{
-    let mut row = [0i32; 8];
-    let start = i / 8 * 8;
-    copy_row(log, start, &mut row);
-    let level = preference::part_level(list, &row, i % 8);
-    (level % 4294967296) as u32
-}
-
-pub fn fill_levels(list: PreferenceList, log: &[i32], table: &mut [u32])
-    requires { ⌜ length (now table) < 10000 ⌝ }
-{
-    let mut i: usize = 0;
-    while i < table.len() {
-        table[i] = level_at(list, log, i);
-        i += 1;
+fn put_byte(nodes: &mut [u8], at: usize, b: u8) {
+    if at < nodes.len() {
+        nodes[at] = b;
     }
 }
 
@@ -63,89 +28,13 @@ pub fn fill_tops(list: PreferenceList, tops: &mut [u32]) {
     }
 }
 
-// ---- rows
-
-// Whether the vector at place a of x is nowhere above the one at place b of y, and somewhere below it.
-fn beats(x: &[u32], a: usize, y: &[u32], b: usize) -> bool
-    requires { ⌜ (a < 10000) × (b < 10000) ⌝ }
-{
-    let mut below = false;
-    let mut above = false;
-    let mut k: usize = 0;
-    while k < 8 {
-        let p = get(x, a + k);
-        let q = get(y, b + k);
-        below = below | (p < q);
-        above = above | (q < p);
-        k += 1;
-    }
-    below & !above
-}
-
-fn equals(x: &[u32], a: usize, y: &[u32], b: usize) -> bool
-    requires { ⌜ (a < 10000) × (b < 10000) ⌝ }
-{
-    let mut equal = true;
-    let mut k: usize = 0;
-    while k < 8 {
-        let p = get(x, a + k);
-        let q = get(y, b + k);
-        equal = equal & (p == q);
-        k += 1;
-    }
-    equal
-}
-
-// Whether a row beats the vector.
-fn beaten(table: &[u32], rows: usize, y: &[u32], b: usize) -> bool
-    requires { ⌜ (rows < 1000) × (b < 10000) ⌝ }
-{
-    let mut found = false;
-    let mut r: usize = 0;
-    while r < rows {
-        found = found | beats(table, 8 * r, y, b);
-        r += 1;
-    }
-    found
-}
-
-// Whether a row has the vector.
-fn held(table: &[u32], rows: usize, y: &[u32], b: usize) -> bool
-    requires { ⌜ (rows < 1000) × (b < 10000) ⌝ }
-{
-    let mut found = false;
-    let mut r: usize = 0;
-    while r < rows {
-        found = found | equals(table, 8 * r, y, b);
-        r += 1;
-    }
-    found
-}
-
-pub fn fill_marks(table: &[u32], rows: usize, marks: &mut [u8])
-    requires { ⌜ rows < 1000 ⌝ }
-{
-    let mut r: usize = 0;
-    while r < rows {
-        let mark = if beaten(table, rows, table, 8 * r) {
-            0
-        } else {
-            1
-        };
-        word::put_u8(marks, r, mark);
-        r += 1;
-    }
-}
-
-// ---- nodes
-
 // The digits of the next node, the last digit first; false past the last node.
 fn advance(digits: &mut [u32], tops: &[u32]) -> bool {
     let mut k: usize = 8;
     while 0 < k {
         k -= 1;
-        let d = get(digits, k);
-        if d < get(tops, k) {
+        let d = nested::part(digits, 0, k);
+        if d < nested::part(tops, 0, k) {
             put(digits, k, d + 1);
             return true;
         }
@@ -156,7 +45,7 @@ fn advance(digits: &mut [u32], tops: &[u32]) -> bool {
 
 // The number of nodes; 32,769 where there are more than 32,768.
 pub fn count(tops: &[u32]) -> usize
-    ensures { λ r. ⌜ r ≤ 32769 ⌝ }
+    ensures { λ r. ⌜ (0 < r) × (r ≤ 32769) ⌝ }
 {
     let mut digits = [0u32; 8];
     let mut x: usize = 1;
@@ -182,7 +71,7 @@ fn leaving(digits: &[u32], tops: &[u32]) -> u32
     let mut n: u32 = 0;
     let mut k: usize = 0;
     while k < 8 {
-        n += one_if_below(get(digits, k), get(tops, k));
+        n += one_if_below(nested::part(digits, 0, k), nested::part(tops, 0, k));
         k += 1;
     }
     n
@@ -198,11 +87,30 @@ fn crossed(b: u8, digits: &[u32], tops: &[u32]) -> u32
     leaving(digits, tops)
 }
 
-fn byte_of(table: &[u32], rows: usize, digits: &[u32]) -> u8
-    requires { ⌜ rows < 1000 ⌝ }
-{
-    let own = held(table, rows, digits, 0);
-    if beaten(table, rows, digits, 0) {
+fn equals(table: &[u32], r: usize, digits: &[u32]) -> bool {
+    let mut equal = true;
+    let mut k: usize = 0;
+    while k < 8 {
+        equal = equal & (nested::part(table, r, k) == nested::part(digits, 0, k));
+        k += 1;
+    }
+    equal
+}
+
+// Whether a row has the node's levels.
+fn held(table: &[u32], rows: usize, digits: &[u32]) -> bool {
+    let mut found = false;
+    let mut r: usize = 0;
+    while r < rows {
+        found = found | equals(table, r, digits);
+        r += 1;
+    }
+    found
+}
+
+fn byte_of(table: &[u32], rows: usize, digits: &[u32]) -> u8 {
+    let own = held(table, rows, digits);
+    if nested::beaten(table, rows, digits, 0) {
         return if own { 3 } else { 2 };
     }
     if own { 1 } else { 0 }
@@ -210,14 +118,14 @@ fn byte_of(table: &[u32], rows: usize, digits: &[u32]) -> u8
 
 // Writes the bytes of n nodes, and gives the number of the edges that leave reached ones.
 pub fn fill_nodes(table: &[u32], rows: usize, tops: &[u32], n: usize, nodes: &mut [u8]) -> u32
-    requires { ⌜ (rows < 1000) × (n ≤ 32769) ⌝ }
+    requires { ⌜ n ≤ 32768 ⌝ }
 {
     let mut digits = [0u32; 8];
     let mut edges: u32 = 0;
     let mut x: usize = 0;
     while x < n {
         let b = byte_of(table, rows, &digits);
-        word::put_u8(nodes, x, b);
+        put_byte(nodes, x, b);
         edges += crossed(b, &digits, tops);
         advance(&mut digits, tops);
         x += 1;
@@ -228,7 +136,7 @@ pub fn fill_nodes(table: &[u32], rows: usize, tops: &[u32], n: usize, nodes: &mu
 pub fn fill_zeros(n: usize, nodes: &mut [u8]) {
     let mut x: usize = 0;
     while x < n {
-        word::put_u8(nodes, x, 0);
+        put_byte(nodes, x, 0);
         x += 1;
     }
 }

@@ -1,12 +1,24 @@
-// Generated logs: what the engine leaves in the lent bytes and comes back as, against the model.
+// Generated logs: what the engine comes back as and leaves in the lent bytes, against the model. Marks and node bytes are lent longer than
+// needed, so that what lies past the ends is compared too.
 ghost use Prim.Native.Nat.{_<_, _≤_};
-use crate::answers;
-use crate::logs;
 use crate::model;
+use crate::spread;
+use crate::spread::Spread;
+use crate::spread::Tried;
+use generated::nested;
+use lattice::LatticeAnswer;
 use preference::PreferenceList;
 
 // What the lent bytes hold before a call.
 const KEPT: u8 = 238;
+
+// The crossings, or 1,000,000 and the number that the call is refused by.
+fn code(answer: LatticeAnswer) -> u64 {
+    match answer {
+        LatticeAnswer::Crossed(n) => n as u64,
+        LatticeAnswer::Refused(k) => 1000000 + k as u64,
+    }
+}
 
 // Whether the engine comes back as told and leaves these marks and node bytes.
 fn leaves(
@@ -18,112 +30,133 @@ fn leaves(
     nodes: &[u8],
 ) -> bool {
     let mut m = [KEPT; 48];
-    let mut x = [KEPT; 2008];
+    let mut x = [KEPT; 32776];
     let got = lattice::run(list, log, &mut m, &mut x, budget);
-    (answers::code(got) == told) & answers::same(&m, marks) & answers::same(&x, nodes)
+    (code(got) == told) & lent::same(&m, marks) & lent::same(&x, nodes)
 }
 
-// Whether the engine leaves these marks.
-fn marks_so(list: PreferenceList, log: &[i32], marks: &[u8]) -> bool {
-    let mut m = [KEPT; 48];
-    let mut x = [KEPT; 32768];
-    lattice::run(list, log, &mut m, &mut x, 4294967295);
-    answers::same(&m, marks)
+// The engine lent the first m mark bytes and the first x node bytes; refused by 99 where there are not so many.
+fn run_front(
+    list: PreferenceList,
+    log: &[i32],
+    marks: &mut [u8],
+    nodes: &mut [u8],
+    m: usize,
+    x: usize,
+) -> LatticeAnswer {
+    if marks.len() < m {
+        return LatticeAnswer::Refused(99);
+    }
+    if nodes.len() < x {
+        return LatticeAnswer::Refused(99);
+    }
+    lattice::run(list, log, &mut marks[..m], &mut nodes[..x], 4294967295)
 }
 
-// Refused by 9, with every byte kept.
-fn refuses_9(list: PreferenceList, log: &[i32]) -> bool {
-    let m = [KEPT; 48];
-    let x = [KEPT; 2008];
-    leaves(list, log, 4294967295, 1000009, &m, &x)
+// Whether the engine, lent m mark bytes and x node bytes, is refused by a number and keeps every byte.
+fn refuses(list: PreferenceList, log: &[i32], m: usize, x: usize, number: u8) -> bool {
+    let mut marks = [KEPT; 48];
+    let mut nodes = [KEPT; 32776];
+    let got = run_front(list, log, &mut marks, &mut nodes, m, x);
+    let kept = (lent::others(&marks, KEPT) == 0) & (lent::others(&nodes, KEPT) == 0);
+    (code(got) == 1000000 + number as u64) & kept
 }
 
-// Refused by 11 with one crossing too few: node bytes 0, marks kept.
-fn refuses_11(list: PreferenceList, log: &[i32], edges: u32, n: usize) -> bool {
-    if edges == 0 {
+// Marks one byte short of the rows, which comes before 8 and 9.
+fn refuses_marks(list: PreferenceList, log: &[i32]) -> bool {
+    let rows = log.len() / 8;
+    if rows == 0 {
         return true;
     }
-    let m = [KEPT; 48];
-    let mut x = [KEPT; 2008];
-    model::fill_zeros(n, &mut x);
-    leaves(list, log, edges - 1, 1000011, &m, &x)
+    refuses(list, log, rows - 1, 32776, 10)
 }
 
-fn rows_in(log: &[i32]) -> usize
-    ensures { λ r. ⌜ r < 1000 ⌝ }
+// Refused by 8 or 9, which comes before a lack of node bytes.
+fn refused_by(list: PreferenceList, log: &[i32], number: u8) -> Tried {
+    Tried {
+        rows: log.len() / 8,
+        number: number,
+        agreed: refuses(list, log, 48, 32776, number)
+            & refuses(list, log, 48, 0, number)
+            & refuses_marks(list, log),
+    }
+}
+
+// Refused by 11: node bytes 0, marks kept.
+fn refuses_11(list: PreferenceList, log: &[i32], budget: u32, n: usize) -> bool {
+    let m = [KEPT; 48];
+    let mut x = [KEPT; 32776];
+    model::fill_zeros(n, &mut x);
+    leaves(list, log, budget, 1000011, &m, &x)
+}
+
+// The call with the crossings that the model counts over n nodes as its budget, with one fewer, and with one byte fewer.
+fn settled(list: PreferenceList, log: &[i32], table: &[u32], tops: &[u32], n: usize) -> Tried
+    requires { ⌜ (0 < n) × (n ≤ 32768) ⌝ }
 {
     let rows = log.len() / 8;
-    if rows < 1000 { rows } else { 0 }
-}
-
-// Whether a call is as the model has it, with n nodes at most 2,000.
-fn settled(list: PreferenceList, log: &[i32], table: &[u32], tops: &[u32], n: usize) -> bool
-    requires { ⌜ n ≤ 2000 ⌝ }
-{
-    let rows = rows_in(log);
     let mut m = [KEPT; 48];
-    let mut x = [KEPT; 2008];
-    model::fill_marks(table, rows, &mut m);
+    let mut x = [KEPT; 32776];
+    nested::fill_marks(table, rows, &mut m);
     let edges = model::fill_nodes(table, rows, tops, n, &mut x);
-    leaves(list, log, edges, edges as u64, &m, &x) & refuses_11(list, log, edges, n)
+    let short = refuses_marks(list, log) & refuses(list, log, 48, n - 1, 10);
+    let good = short & leaves(list, log, edges, edges as u64, &m, &x);
+    if edges == 0 {
+        return Tried {
+            rows: rows,
+            number: 0,
+            agreed: good,
+        };
+    }
+    Tried {
+        rows: rows,
+        number: 11,
+        agreed: good & refuses_11(list, log, edges - 1, n),
+    }
 }
 
-fn marked(list: PreferenceList, log: &[i32], table: &[u32]) -> bool {
-    let mut m = [KEPT; 48];
-    model::fill_marks(table, rows_in(log), &mut m);
-    marks_so(list, log, &m)
-}
-
-fn agrees(list: PreferenceList, log: &[i32]) -> bool {
+fn tried(list: PreferenceList, log: &[i32]) -> Tried {
+    if nested::strays(list, log) {
+        return refused_by(list, log, 8);
+    }
     let mut table = [0u32; 320];
     let mut tops = [0u32; 8];
-    model::fill_levels(list, log, &mut table);
+    nested::fill_levels(list, log, &mut table);
     model::fill_tops(list, &mut tops);
     let n = model::count(&tops);
-    if n <= 2000 {
-        return settled(list, log, &table, &tops, n);
+    if 32768 < n {
+        return refused_by(list, log, 9);
     }
-    if n <= 32768 {
-        return marked(list, log, &table);
-    }
-    refuses_9(list, log)
+    settled(list, log, &table, &tops, n)
 }
 
 // The same of the first rows of a log.
-fn agrees_front(list: PreferenceList, log: &[i32], rows: usize) -> bool {
+fn tried_front(list: PreferenceList, log: &[i32], rows: usize) -> Tried {
     if log.len() / 8 < rows {
-        return false;
+        return tried(list, log);
     }
     let end = 8 * rows;
-    agrees(list, &log[..end])
+    tried(list, &log[..end])
 }
 
-// 1 where the engine differs from the model.
-fn differs(seed: u32) -> u64
-    ensures { λ r. ⌜ r ≤ 1 ⌝ }
-{
+fn trial_of(seed: u32) -> Tried {
     let mut log = [0i32; 320];
-    logs::fill_log(seed, &mut log);
-    let rows = logs::rows_of(seed);
-    if agrees_front(logs::list_of(seed), &log, rows) {
-        0
-    } else {
-        1
-    }
+    generated::logs::fill_log(seed, &mut log);
+    tried_front(
+        generated::lists::list_of(seed),
+        &log,
+        generated::logs::rows_of(seed),
+    )
 }
 
 pub fn generated() {
+    let mut spread = spread::none();
     let mut seed: u32 = 1;
-    let mut bad: u64 = 0;
-    let mut tried: u64 = 0;
-    while tried < 400 {
-        bad += differs(seed);
-        seed = logs::next(seed);
-        tried += 1;
+    let mut n: u32 = 0;
+    while n < 1000 {
+        spread = spread::with(spread, trial_of(seed));
+        seed = generated::figures::next(seed);
+        n += 1;
     }
-    show::text(b"generated logs");
-    show::number(tried);
-    show::text(b" differing");
-    show::number(bad);
-    show::end_line();
+    spread::show_spread(spread);
 }

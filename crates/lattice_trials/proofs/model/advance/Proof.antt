@@ -17,11 +17,11 @@ loop-holds c = search needs
 sub-k : tie.Need-sub-k Inv-loop μ-loop
 sub-k c = search needs
 
-get-requires : tie.Need-get-requires Inv-loop μ-loop
-get-requires c κs = search needs
+part-requires : tie.Need-part-requires Inv-loop μ-loop
+part-requires c κs = search needs
 
-get-requires-2 : tie.Need-get-requires-2 Inv-loop μ-loop
-get-requires-2 c κs = search needs
+part-requires-2 : tie.Need-part-requires-2 Inv-loop μ-loop
+part-requires-2 c κs = search needs
 
 add-put : tie.Need-add-put Inv-loop μ-loop
 add-put c = search needs
@@ -58,8 +58,8 @@ advance-spec =
     μ-loop
     loop-holds
     sub-k
-    get-requires
-    get-requires-2
+    part-requires
+    part-requires-2
     add-put
     put-requires
     same-length

@@ -1,12 +1,12 @@
 use borrow.Author.Needs.{needs}
-use Prim.Native.Nat.{_≤_, _-_}
+use Prim.Native.Nat.{_<_, _≤_, _-_}
 use mathlib.Core.Path.{_≡_}
 use lib.ListN.{length}
 use Rattle.lattice_trials.proofs.model.count.Statement.{statement}
 use Rattle.lattice_trials.proofs.model.count.Tie as tie
 
 abbrev Inv-loop : tie.InvT-loop
-Inv-loop tops digits₀ x₀ digits x = (x ≤ 32769) × (length digits ≡ 8)
+Inv-loop tops digits₀ x₀ digits x = (0 < x) × (x ≤ 32769) × (length digits ≡ 8)
 
 abbrev μ-loop : tie.MeasureT-loop
 μ-loop tops digits₀ x₀ digits x = 32769 - x

@@ -1,28 +1,22 @@
 use borrow.Author.Needs.{needs}
-use Prim.Native.Nat.{_≤_, _<_, _-_}
+use Prim.Native.Nat.{_-_}
 use Rattle.lattice_trials.proofs.model.equals.Statement.{statement}
 use Rattle.lattice_trials.proofs.model.equals.Tie as tie
 
 abbrev Inv-loop : tie.InvT-loop
-Inv-loop x a y b equal₀ k₀ equal k = (a < 10000) × (b < 10000) × (k ≤ 8)
+Inv-loop table r digits equal₀ k₀ equal k = Unit {0}
 
 abbrev μ-loop : tie.MeasureT-loop
-μ-loop x a y b equal₀ k₀ equal k = 8 - k
+μ-loop table r digits equal₀ k₀ equal k = 8 - k
 
 loop-holds : tie.Need-loop-holds Inv-loop μ-loop
 loop-holds c = search needs
 
-add-get : tie.Need-add-get Inv-loop μ-loop
-add-get c = search needs
+part-requires : tie.Need-part-requires Inv-loop μ-loop
+part-requires c κs = search needs
 
-get-requires : tie.Need-get-requires Inv-loop μ-loop
-get-requires c κs = search needs
-
-add-get-2 : tie.Need-add-get-2 Inv-loop μ-loop
-add-get-2 c = search needs
-
-get-requires-2 : tie.Need-get-requires-2 Inv-loop μ-loop
-get-requires-2 c κs = search needs
+part-requires-2 : tie.Need-part-requires-2 Inv-loop μ-loop
+part-requires-2 c κs = search needs
 
 add-k : tie.Need-add-k Inv-loop μ-loop
 add-k c = search needs
@@ -43,10 +37,8 @@ equals-spec =
     Inv-loop
     μ-loop
     loop-holds
-    add-get
-    get-requires
-    add-get-2
-    get-requires-2
+    part-requires
+    part-requires-2
     add-k
     loop-less
     loop-again

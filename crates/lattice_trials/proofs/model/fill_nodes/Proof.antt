@@ -1,12 +1,12 @@
 use borrow.Author.Needs.{needs}
-use Prim.Native.Nat.{_≤_, _<_, _-_, _*_}
+use Prim.Native.Nat.{_≤_, _-_, _*_}
 use mathlib.Core.Path.{_≡_}
 use lib.ListN.{length}
 use Rattle.lattice_trials.proofs.model.fill_nodes.Statement.{statement}
 use Rattle.lattice_trials.proofs.model.fill_nodes.Tie as tie
 
 abbrev Inv-loop : tie.InvT-loop
-Inv-loop table rows tops n nodes₀ digits₀ edges₀ x₀ nodes digits edges x = (rows < 1000) × (n ≤ 32769) × (x ≤ n) × (edges ≤ 8 * x) × (length digits ≡ 8) × (length nodes ≡ length nodes₀)
+Inv-loop table rows tops n nodes₀ digits₀ edges₀ x₀ nodes digits edges x = (n ≤ 32768) × (x ≤ n) × (edges ≤ 8 * x) × (length digits ≡ 8) × (length nodes ≡ length nodes₀)
 
 abbrev μ-loop : tie.MeasureT-loop
 μ-loop table rows tops n nodes₀ digits₀ edges₀ x₀ nodes digits edges x = n - x
@@ -20,8 +20,8 @@ slice-aggregate-byte-of c = search needs
 byte-of-requires : tie.Need-byte-of-requires Inv-loop μ-loop
 byte-of-requires c κs = search needs
 
-put-u8-requires : tie.Need-put-u8-requires Inv-loop μ-loop
-put-u8-requires c κs = search needs
+put-byte-requires : tie.Need-put-byte-requires Inv-loop μ-loop
+put-byte-requires c κs = search needs
 
 slice-aggregate-crossed : tie.Need-slice-aggregate-crossed Inv-loop μ-loop
 slice-aggregate-crossed c = search needs
@@ -62,7 +62,7 @@ fill-nodes-spec =
     loop-holds
     slice-aggregate-byte-of
     byte-of-requires
-    put-u8-requires
+    put-byte-requires
     slice-aggregate-crossed
     crossed-requires
     add-edges

@@ -1,19 +1,16 @@
 use borrow.Author.Needs.{needs}
-use Prim.Native.Nat.{_<_, _-_}
+use Prim.Native.Nat.{_-_}
 use Rattle.lattice_trials.proofs.model.held.Statement.{statement}
 use Rattle.lattice_trials.proofs.model.held.Tie as tie
 
 abbrev Inv-loop : tie.InvT-loop
-Inv-loop table rows y b found₀ r₀ found r = (rows < 1000) × (b < 10000)
+Inv-loop table rows digits found₀ r₀ found r = Unit {0}
 
 abbrev μ-loop : tie.MeasureT-loop
-μ-loop table rows y b found₀ r₀ found r = rows - r
+μ-loop table rows digits found₀ r₀ found r = rows - r
 
 loop-holds : tie.Need-loop-holds Inv-loop μ-loop
 loop-holds c = search needs
-
-mul-equals : tie.Need-mul-equals Inv-loop μ-loop
-mul-equals c = search needs
 
 equals-requires : tie.Need-equals-requires Inv-loop μ-loop
 equals-requires c κs = search needs
@@ -33,13 +30,4 @@ returns c = search needs
 pub held-spec : {M : Type 1} → statement M
 held-spec =
     tie.close
-    (tie.spec
-    Inv-loop
-    μ-loop
-    loop-holds
-    mul-equals
-    equals-requires
-    add-r
-    loop-less
-    loop-again
-    returns)
+    (tie.spec Inv-loop μ-loop loop-holds equals-requires add-r loop-less loop-again returns)

@@ -12,11 +12,11 @@ abbrev μ-loop : tie.MeasureT-loop
 loop-holds : tie.Need-loop-holds Inv-loop μ-loop
 loop-holds c = search needs
 
-get-requires : tie.Need-get-requires Inv-loop μ-loop
-get-requires c κs = search needs
+part-requires : tie.Need-part-requires Inv-loop μ-loop
+part-requires c κs = search needs
 
-get-requires-2 : tie.Need-get-requires-2 Inv-loop μ-loop
-get-requires-2 c κs = search needs
+part-requires-2 : tie.Need-part-requires-2 Inv-loop μ-loop
+part-requires-2 c κs = search needs
 
 one-if-below-requires : tie.Need-one-if-below-requires Inv-loop μ-loop
 one-if-below-requires c κs = search needs
@@ -43,8 +43,8 @@ leaving-spec =
     Inv-loop
     μ-loop
     loop-holds
-    get-requires
-    get-requires-2
+    part-requires
+    part-requires-2
     one-if-below-requires
     add-n
     add-k

@@ -4,25 +4,28 @@ use Rattle.lattice_trials.proofs.trials.generated.Statement.{statement}
 use Rattle.lattice_trials.proofs.trials.generated.Tie as tie
 
 abbrev Inv-loop : tie.InvT-loop
-Inv-loop seed₀ bad₀ tried₀ t4 t5 seed bad tried = (tried ≤ 400) × (bad ≤ tried)
+Inv-loop spread₀ seed₀ n₀ spread seed n = n ≤ 1000
 
 abbrev μ-loop : tie.MeasureT-loop
-μ-loop seed₀ bad₀ tried₀ t4 t5 seed bad tried = 400 - tried
+μ-loop spread₀ seed₀ n₀ spread seed n = 1000 - n
+
+none-requires : tie.Need-none-requires Inv-loop μ-loop
+none-requires c κs = search needs
 
 loop-holds : tie.Need-loop-holds Inv-loop μ-loop
 loop-holds c = search needs
 
-differs-requires : tie.Need-differs-requires Inv-loop μ-loop
-differs-requires c κs = search needs
+trial-of-requires : tie.Need-trial-of-requires Inv-loop μ-loop
+trial-of-requires c κs = search needs
 
-add-bad : tie.Need-add-bad Inv-loop μ-loop
-add-bad c = search needs
+with-requires : tie.Need-with-requires Inv-loop μ-loop
+with-requires c κs = search needs
 
 next-requires : tie.Need-next-requires Inv-loop μ-loop
 next-requires c κs = search needs
 
-add-tried : tie.Need-add-tried Inv-loop μ-loop
-add-tried c = search needs
+add-n : tie.Need-add-n Inv-loop μ-loop
+add-n c = search needs
 
 loop-less : tie.Need-loop-less Inv-loop μ-loop
 loop-less c = search needs
@@ -30,26 +33,8 @@ loop-less c = search needs
 loop-again : tie.Need-loop-again Inv-loop μ-loop
 loop-again c = search needs
 
-slice-aggregate-text : tie.Need-slice-aggregate-text Inv-loop μ-loop
-slice-aggregate-text c = search needs
-
-text-requires : tie.Need-text-requires Inv-loop μ-loop
-text-requires c κs = search needs
-
-number-requires : tie.Need-number-requires Inv-loop μ-loop
-number-requires c κs = search needs
-
-slice-aggregate-text-2 : tie.Need-slice-aggregate-text-2 Inv-loop μ-loop
-slice-aggregate-text-2 c = search needs
-
-text-requires-2 : tie.Need-text-requires-2 Inv-loop μ-loop
-text-requires-2 c κs = search needs
-
-number-requires-2 : tie.Need-number-requires-2 Inv-loop μ-loop
-number-requires-2 c κs = search needs
-
-end-line-requires : tie.Need-end-line-requires Inv-loop μ-loop
-end-line-requires c κs = search needs
+show-spread-requires : tie.Need-show-spread-requires Inv-loop μ-loop
+show-spread-requires c κs = search needs
 
 returns : tie.Need-returns Inv-loop μ-loop
 returns c = search needs
@@ -60,18 +45,13 @@ generated-spec =
     (tie.spec
     Inv-loop
     μ-loop
+    none-requires
     loop-holds
-    differs-requires
-    add-bad
+    trial-of-requires
+    with-requires
     next-requires
-    add-tried
+    add-n
     loop-less
     loop-again
-    slice-aggregate-text
-    text-requires
-    number-requires
-    slice-aggregate-text-2
-    text-requires-2
-    number-requires-2
-    end-line-requires
+    show-spread-requires
     returns)
