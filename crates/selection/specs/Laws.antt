@@ -1,0 +1,3 @@
+pub mod Selected
+pub mod Engines
+pub mod Stream
