@@ -1,0 +1,55 @@
+-- The counts that come back from accepted calls.
+use mathlib.Core.Path.{_≡_, refl}
+use Prim.Native.Nat.{ℕ, zero, suc, _+_, _-_, _*_, _/_, _≤_}
+use native.Mathlib.Omega.{arith}
+use mathlib.Core.Bool.{Bool, true, false, cond}
+use mathlib.Core.List.{List}
+use lib.IntN.{ℤ}
+use lib.ListN.{length}
+use borrow.Author.Tests.{ne-eqb, le-ltb}
+use Rattle.laws.specs.Outcome.{accepted}
+use Rattle.laws.specs.Laws.Outcome.{accepted-value}
+use Rattle.laws.specs.Checks.{_gives_, _then_}
+use Rattle.laws.specs.Laws.Bools.{false-true}
+use Rattle.runs.specs.Log.{rowCount}
+use Rattle.preference.specs.Parts.{maxLevels}
+use Rattle.preference.specs.declared.PreferenceList.{PreferenceList}
+use Rattle.pareto.specs.Best.{competing, vectors, rowDominates}
+use Rattle.pareto.specs.Checked.{marksNumber}
+use Rattle.nodes.specs.Lattice.{crossings}
+use Rattle.machine.specs.Laws.Ends.{count-bound-half}
+use Rattle.lattice.specs.Engine.{Ran}
+use Rattle.lattice.specs.declared.LatticeAnswer.the-variants.{Crossed}
+use Rattle.bnl.specs.Engine.{sizesNumber, machineOf, Answered}
+use Rattle.bnl.specs.declared.WindowAnswer.the-variants.{Compared}
+
+abbrev mark : Bool → ℕ
+mark t = cond t 1 0
+
+pub one-best : (t : Bool) → (mark t ≡ 1 → t ≡ true) × (t ≡ true → mark t ≡ 1) × (mark t ≤ 1)
+one-best true = (λ e. refl, λ e. refl, omega arith)
+one-best false = (λ e. absurd (omega arith), λ e. false-true e, omega arith)
+
+module _ (l : PreferenceList) (log : List ℤ) where
+  pub crossed-outcome : (marks marks′ nodes nodes′ : List ℕ) (budget count : ℕ) → Ran l log marks nodes budget (Crossed count) marks′ nodes′ → count ≡ crossings (maxLevels l) (vectors l log)
+  crossed-outcome marks marks′ nodes nodes′ budget count a = accepted-value _ _ count (a .ends)
+
+  pub compared-outcome : (marks marks′ work work′ : List ℕ) (w count : ℕ) → Answered l log w marks marks′ work work′ (Compared count) → count ≡ machineOf l log w .count
+  compared-outcome marks marks′ work work′ w count a = accepted-value _ _ count (a .answer)
+
+  pub window-bound : (w : ℕ) → 1 ≤ w → machineOf l log w .count ≤ length (competing log) * (length (competing log) - 1) / 2
+  unfolding machineOf
+  window-bound w some = count-bound-half (rowDominates l log) w (competing log) (rowCount log) some
+
+-- ---- the sizes that the window engine checks
+
+then-last : (a : ℕ) → a then 0 ≡ a
+unfolding _then_
+then-last zero = refl
+then-last (suc a) = refl
+
+pub sizes-number : (log : List ℤ) (marks work w : ℕ) → 1 ≤ w → w ≤ 1024 → 2 * (rowCount log + w) ≤ work → sizesNumber log marks work w ≡ marksNumber log marks
+unfolding sizesNumber _then_
+sizes-number log marks work w some narrow room =
+    rw (ne-eqb w 0 (λ e. absurd (omega arith)), le-ltb 1024 w narrow, le-ltb work (2 * (rowCount log + w)) room)
+    (unfold _gives_ in then-last (marksNumber log marks))
