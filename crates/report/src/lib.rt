@@ -1,0 +1,36 @@
+// The whole output of the program, as bytes.
+use preference::PreferenceList;
+ghost use Prim.Native.Nat.{_<_};
+ghost use Rattle.text.specs.Prints.{Prints};
+ghost use Rattle.selection.specs.Selected.{eitherNumber};
+ghost use Rattle.report.specs.Report.{Reported, textOf, reportOf};
+
+// The report on a list and a log. Of the two gaps of a result, one is the refusal number and one the number of shortlisted rows.
+fn put_selected(out: &mut [u8], list: PreferenceList, log: &[i32]) -> usize
+    ensures { λ r. ⌜ Prints (now (out .entry)) (now (out .exit)) 0 r (textOf (eitherNumber list (now (log .entry)) 1024) list (now (log .entry))) ⌝ }
+    ensures { λ r. ⌜ eitherNumber list (now (log .entry)) 1024 < 4294967296 ⌝ }
+{
+    let mut marks = [0u8; 1024];
+    let r = selection::by_either(list, log, &mut marks);
+    let refused = arith::signed_gap(0, r);
+    if refused != 0 {
+        return lines::put_refused(out, refused);
+    }
+    let best = arith::signed_gap(r, 0);
+    let rows = log.len() / 8;
+    let at = lines::put_head(out, rows as u64, best);
+    lines::put_lines(out, at, log, &marks)
+}
+
+// The report on a stream.
+pub fn report(stream: &[u8], out: &mut [u8]) -> usize
+    ensures { λ r. ⌜ Reported (now (out .entry)) (now (out .exit)) r (reportOf (now (stream .entry))) ⌝ }
+{
+    let mut log = [0i32; 8192];
+    let read = reader::read(stream, &mut log);
+    if read.number != 0 {
+        return lines::put_refused(out, read.number as u64);
+    }
+    let end = 8 * read.rows;
+    put_selected(out, read.list, &log[..end])
+}

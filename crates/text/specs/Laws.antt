@@ -1,0 +1,4 @@
+pub mod Text
+pub mod Prints
+pub mod Sign
+pub mod Examples

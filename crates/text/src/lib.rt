@@ -1,0 +1,64 @@
+// Texts put into lent bytes one after the other. Every function takes every place and gives the place after its text. A store past the
+// end does nothing, and no text goes past byte 4,294,967,296, so that no place can wrap.
+ghost use mathlib.Core.Path.{_≡_};
+ghost use mathlib.Core.List.{[], _∷_};
+ghost use lib.IntN.{natAbs};
+ghost use Rattle.text.specs.Text.{decimal, sign, signed};
+ghost use Rattle.text.specs.Prints.{Prints};
+
+pub fn put_byte(out: &mut [u8], at: usize, b: u8) -> usize
+    ensures { λ r. ⌜ Prints (now (out .entry)) (now (out .exit)) at r (b ∷ []) ⌝ }
+{
+    if at < 4294967296 {
+        word::put_u8(out, at, b);
+        return at + 1;
+    }
+    at
+}
+
+pub fn put_bytes(out: &mut [u8], at: usize, bytes: &[u8]) -> usize
+    ensures { λ r. ⌜ Prints (now (out .entry)) (now (out .exit)) at r (now (bytes .entry)) ⌝ }
+{
+    let mut next = at;
+    let mut j: usize = 0;
+    while j < bytes.len() {
+        next = put_byte(out, next, bytes[j]);
+        j += 1;
+    }
+    next
+}
+
+// The number n in base ten.
+pub fn put_decimal(out: &mut [u8], at: usize, n: u64) -> usize
+    ensures { λ r. ⌜ Prints (now (out .entry)) (now (out .exit)) at r (decimal n) ⌝ }
+{
+    if n < 10 {
+        return put_byte(out, at, (48 + n) as u8);
+    }
+    let next = put_decimal(out, at, n / 10);
+    put_byte(out, next, (48 + n % 10) as u8)
+}
+
+// The size of a signed number: of the two gaps one is 0.
+fn magnitude(v: i32) -> u64
+    ensures { λ r. ⌜ r ≡ natAbs v ⌝ }
+{
+    arith::signed_gap(v, 0) + arith::signed_gap(0, v)
+}
+
+fn put_sign(out: &mut [u8], at: usize, v: i32) -> usize
+    ensures { λ r. ⌜ Prints (now (out .entry)) (now (out .exit)) at r (sign v) ⌝ }
+{
+    if v < 0 {
+        return put_byte(out, at, 45);
+    }
+    at
+}
+
+// The signed number v in base ten, a minus before a negative one.
+pub fn put_signed(out: &mut [u8], at: usize, v: i32) -> usize
+    ensures { λ r. ⌜ Prints (now (out .entry)) (now (out .exit)) at r (signed v) ⌝ }
+{
+    let next = put_sign(out, at, v);
+    put_decimal(out, next, magnitude(v))
+}
