@@ -1,15 +1,43 @@
 # Two commands do everything on a machine with the Rattle kit: `make run` and `make test`.
-.PHONY: run test clean
+.PHONY: run test archive program bench install clean
 
-# Proves and builds what is needed, then shows the levels of the Harbour log.
-run:
-	@mkdir -p target
-	@rt check harbour_levels >target/run.log 2>&1 || { cat target/run.log; exit 1; }
-	@target/bin/harbour_levels
+PREFIX ?= /usr/local
+DESTDIR ?=
+VERSION = 0.1.0
 
-# The gate: proofs from nothing, must-fail edits, programs, lints.
+# Proves and builds what is needed, then runs the program on the Harbour log.
+run: program
+	@target/bin/shortlist <examples/harbour.bin
+
+# The gate: proofs from nothing, must-fail edits, programs, lints, tests from outside.
 test:
 	@bash .ci/run
+
+# The library for C: target/archive holds libshortlist.a and shortlist.h.
+archive:
+	@mkdir -p target/archive
+	@rt staticlib console >target/archive.log 2>&1 || { cat target/archive.log; exit 1; }
+	@cp target/staticlib/libconsole.a target/archive/libshortlist.a
+	@cp include/shortlist.h target/archive/shortlist.h
+
+program:
+	@mkdir -p target
+	@rt check shortlist >target/program.log 2>&1 || { cat target/program.log; exit 1; }
+
+# Our calls beside careful C and Rust ones: tables, and target/bench/rows.svg. docs/BENCHMARKS.md explains them.
+bench: archive
+	@bash bench/run
+
+# Library, header, pkg-config file, program and manual page: make install PREFIX=/usr/local DESTDIR=
+install: archive program
+	install -d "$(DESTDIR)$(PREFIX)/lib/pkgconfig" "$(DESTDIR)$(PREFIX)/include"
+	install -d "$(DESTDIR)$(PREFIX)/bin" "$(DESTDIR)$(PREFIX)/share/man/man1"
+	install -m 644 target/archive/libshortlist.a "$(DESTDIR)$(PREFIX)/lib"
+	install -m 644 include/shortlist.h "$(DESTDIR)$(PREFIX)/include"
+	sed -e 's|@PREFIX@|$(PREFIX)|' -e 's|@VERSION@|$(VERSION)|' shortlist.pc.in >target/shortlist.pc
+	install -m 644 target/shortlist.pc "$(DESTDIR)$(PREFIX)/lib/pkgconfig"
+	install -m 755 target/bin/shortlist "$(DESTDIR)$(PREFIX)/bin"
+	install -m 644 man/shortlist.1 "$(DESTDIR)$(PREFIX)/share/man/man1"
 
 clean:
 	rm -rf target

@@ -1,0 +1,79 @@
+//! The two flat calls and the program, as document 01 has them answer. Counts come back as they are, refusals as minus the number.
+
+use super::{best, lattice, levels, machine, reader};
+use std::fmt::Write;
+
+/// What the calls' answers hang on, worked out once for a stream that reads.
+pub struct Facts {
+    pub rows: usize,
+    /// Number 8 is due; the levels are not asked for then.
+    pub outside: bool,
+    pub levels: Vec<Vec<u32>>,
+    /// From the nested loop.
+    pub marks: Vec<u8>,
+    pub best: i32,
+    /// None where the lattice has more than 32,768 nodes.
+    pub crossings: Option<u32>,
+    pub input: reader::Input,
+}
+
+/// The refusal number of reading, or the facts.
+pub fn facts(stream: &[u8]) -> Result<Facts, i32> {
+    let input = reader::read(stream).map_err(|refusal| refusal.number)?;
+    let outside = levels::any_outside(&input);
+    let levels = if outside { vec![] } else { levels::of_log(&input) };
+    let marks = best::marks(&levels);
+    let best = marks.iter().map(|mark| i32::from(*mark)).sum();
+    let tops = levels::tops(&input);
+    let crossings = lattice::nodes(&tops).map(|_| lattice::crossings(&tops, &lattice::bytes(&tops, &levels)));
+    Ok(Facts { rows: input.runs.len(), outside, levels, marks, best, crossings, input })
+}
+
+impl Facts {
+    /// "log, marks, w and work list 10; 8; then for the lattice engine 9, node bytes 10, 11"
+    pub fn lattice(&self, marks_len: usize, budget: u32) -> i32 {
+        match self.crossings {
+            _ if marks_len < self.rows => -10,
+            _ if self.outside => -8,
+            None => -9,
+            Some(crossings) if budget < crossings => -11,
+            Some(_) => self.best,
+        }
+    }
+
+    pub fn window(&self, marks_len: usize, w: u32) -> i32 {
+        if marks_len < self.rows || !(1..=1_024).contains(&w) {
+            -10
+        } else if self.outside {
+            -8
+        } else {
+            self.best
+        }
+    }
+
+    /// The machine's result, as marks. It has to be the nested loop's; the trials see to that.
+    pub fn machine_marks(&self, w: u32) -> Vec<u8> {
+        machine::marks(self.rows, &machine::run(&self.levels, w as usize).result)
+    }
+}
+
+/// What `shortlist` prints: the lattice engine with budget 262,144, or where that gives 9 the window engine with w 64.
+pub fn program(stream: &[u8]) -> String {
+    let facts = match facts(stream) {
+        Ok(facts) => facts,
+        Err(number) => return format!("refused {number}\n"),
+    };
+    let result = match facts.lattice(facts.rows, 262_144) {
+        -9 => facts.window(facts.rows, 64),
+        result => result,
+    };
+    if result < 0 {
+        return format!("refused {}\n", -result);
+    }
+    let mut text = format!("runs {} best {result}\n", facts.rows);
+    for row in (0..facts.rows).filter(|row| facts.marks[*row] == 1) {
+        let run = &facts.input.runs[row];
+        writeln!(text, "{row} {} {}", run[0], run[1]).expect("text");
+    }
+    text
+}
