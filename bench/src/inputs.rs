@@ -1,0 +1,164 @@
+//! The streams that are timed. Each comes from the same seed, so every run of the bench has the same bytes.
+
+use flat_calls::calls::Call;
+use flat_calls::random::{Random, SEED};
+use flat_calls::records::{around, between, highest, layered, lowest, named, run, Record};
+
+pub struct Case {
+    pub name: String,
+    pub call: Call,
+    pub stream: Vec<u8>,
+}
+
+/// A budget that suffices for every log.
+pub const BUDGET: u32 = 262_144;
+const STEP: i32 = 7;
+const LO: i32 = -1_000;
+const ROWS: usize = 1_024;
+
+/// LOWEST and HIGHEST in turn, with these greatest levels.
+fn wishes(tops: &[i32]) -> Vec<Record> {
+    let wish = |(column, top): (u8, &i32)| {
+        let hi = LO + top * STEP;
+        let of = if column % 2 == 0 { lowest } else { highest };
+        of(column, LO, hi, STEP as u32)
+    };
+    (0..).zip(tops).map(wish).collect()
+}
+
+/// A run with these levels: any value that has the level can come.
+fn with_levels(random: &mut Random, tops: &[i32], levels: &[i32]) -> Record {
+    let mut values = [0; 8];
+    for (column, (top, level)) in tops.iter().zip(levels).enumerate() {
+        let short = if *level == 0 { 0 } else { random.below(STEP as u64) as i32 };
+        let distance = level * STEP - short;
+        values[column] = if column % 2 == 0 { LO + distance } else { LO + top * STEP - distance };
+    }
+    run(&values)
+}
+
+fn stream(random: &mut Random, tops: &[i32], rows: impl IntoIterator<Item = Vec<i32>>) -> Vec<u8> {
+    let mut records = wishes(tops);
+    records.extend(rows.into_iter().map(|levels| with_levels(random, tops, &levels)));
+    records.concat()
+}
+
+fn uniform(random: &mut Random, tops: &[i32]) -> Vec<i32> {
+    tops.iter().map(|top| random.between(0, i64::from(*top)) as i32).collect()
+}
+
+/// Rows whose levels have the same sum never better each other.
+fn anticorrelated(random: &mut Random, tops: &[i32]) -> Vec<i32> {
+    let sum: i32 = tops.iter().sum::<i32>() / 2;
+    let mut levels = uniform(random, tops);
+    while levels.iter().sum::<i32>() != sum {
+        let more = if levels.iter().sum::<i32>() < sum { 1 } else { -1 };
+        let column = random.below(tops.len() as u64) as usize;
+        levels[column] = (levels[column] + more).clamp(0, tops[column]);
+    }
+    levels
+}
+
+/// Near the top node, so that few nodes are reached.
+fn near_top(random: &mut Random, tops: &[i32]) -> Vec<i32> {
+    tops.iter().map(|top| top - random.below(2) as i32).collect()
+}
+
+/// Every sixteenth row becomes one level worse than the row before it, which may stand before or after it.
+fn worsen_some(random: &mut Random, tops: &[i32], rows: &mut [Vec<i32>]) {
+    for r in (15..rows.len()).step_by(16) {
+        rows[r] = rows[r - 1].clone();
+        let column = random.below(tops.len() as u64) as usize;
+        rows[r][column] = (rows[r][column] + 1).min(tops[column]);
+        if random.one_in(2) {
+            rows.swap(r, r - 1);
+        }
+    }
+}
+
+fn rows_of(n: usize, random: &mut Random, tops: &[i32], row: fn(&mut Random, &[i32]) -> Vec<i32>) -> Vec<Vec<i32>> {
+    (0..n).map(|_| row(random, tops)).collect()
+}
+
+fn windows() -> Vec<Case> {
+    let mut cases = vec![];
+    let kinds: [(&str, i32, fn(&mut Random, &[i32]) -> Vec<i32>); 3] =
+        [("uniform 0..99", 99, uniform), ("few levels 0..7", 7, uniform), ("anticorrelated", 99, anticorrelated)];
+    for (kind, top, row) in kinds {
+        let random = &mut Random::new(SEED);
+        let tops = [top; 8];
+        let mut rows = rows_of(ROWS, random, &tops, row);
+        if kind == "anticorrelated" {
+            worsen_some(random, &tops, &mut rows);
+        }
+        let stream = stream(random, &tops, rows);
+        for w in [1, 64, 1_024] {
+            cases.push(Case { name: format!("window {w}, {kind}"), call: Call::Window { w }, stream: stream.clone() });
+        }
+    }
+    cases
+}
+
+/// 32,768 nodes each.
+const LATTICES: [&[i32]; 3] = [&[127, 255], &[7; 5], &[1, 3, 3, 3, 3, 3, 3, 3]];
+
+fn lattices() -> Vec<Case> {
+    let mut cases = vec![];
+    for tops in LATTICES {
+        let random = &mut Random::new(SEED);
+        let k = tops.len();
+        let mut all = rows_of(ROWS, random, tops, uniform);
+        all[ROWS / 2] = vec![0; k];
+        let hardly = rows_of(ROWS, random, tops, near_top);
+        for (reached, rows) in [("all reached", all), ("hardly reached", hardly)] {
+            let stream = stream(random, tops, rows);
+            cases.push(Case { name: format!("lattice k {k}, {reached}"), call: Call::Lattice { budget: BUDGET }, stream });
+        }
+    }
+    cases
+}
+
+/// Five wishes with levels 0 to 7, so that both engines take the stream.
+pub fn by_rows(rows: usize) -> Vec<u8> {
+    let random = &mut Random::new(SEED);
+    let tops = [7; 5];
+    let rows = rows_of(rows, random, &tops, uniform);
+    stream(random, &tops, rows)
+}
+
+pub const WINDOW: Call = Call::Window { w: 64 };
+pub const LATTICE: Call = Call::Lattice { budget: BUDGET };
+
+fn scaling() -> Vec<Case> {
+    let mut cases = vec![];
+    for (engine, call) in [("window 64", WINDOW), ("lattice k 5", LATTICE)] {
+        for rows in [1, 32, 1_024] {
+            cases.push(Case { name: format!("{engine}, rows {rows}"), call, stream: by_rows(rows) });
+        }
+    }
+    cases
+}
+
+/// A wish of each form, and all the names that a list can have.
+fn five_forms() -> Vec<u8> {
+    let random = &mut Random::new(SEED);
+    let mut records = vec![lowest(0, 0, 70, 10), highest(1, 0, 70, 10), around(2, 0, 70, 5, 35), between(3, 0, 70, 4, 28, 42)];
+    records.push(layered(4, 7, 7));
+    records.extend((0..64).map(|value| named(value, (value % 8) as u8)));
+    for _ in 0..ROWS {
+        let mut values = [0; 8];
+        values.iter_mut().for_each(|value| *value = random.between(0, 70) as i32);
+        records.push(run(&values));
+    }
+    records.concat()
+}
+
+pub fn all() -> Vec<Case> {
+    let mut cases = windows();
+    cases.extend(lattices());
+    cases.extend(scaling());
+    for (engine, call) in [("window 64", WINDOW), ("lattice", LATTICE)] {
+        cases.push(Case { name: format!("{engine}, five forms"), call, stream: five_forms() });
+    }
+    cases
+}
