@@ -1,5 +1,6 @@
 // The Harbour log of document 01: with the budget that it takes, and with one crossing fewer.
 use crate::answers;
+use lattice::LatticeAnswer;
 use preference::PreferenceList;
 
 fn put(log: &mut [i32], row: usize, hours: i32, cubic: i32, density: i32) {
@@ -21,13 +22,17 @@ fn harbour_list() -> PreferenceList {
     trial::with(one, 2, trial::around(1000, 1600, 50, 1250))
 }
 
-// The Harbour log with a budget that is enough.
-fn show_accepted(label: &[u8], budget: u32) {
+fn run(marks: &mut [u8], nodes: &mut [u8], budget: u32) -> LatticeAnswer {
     let mut log = [0i32; 40];
     fill(&mut log);
+    lattice::run(harbour_list(), &log, marks, nodes, budget)
+}
+
+// With a budget that is enough.
+fn show_accepted(label: &[u8], budget: u32) {
     let mut marks = [238u8; 5];
     let mut nodes = [238u8; 88];
-    let got = lattice::run(harbour_list(), &log, &mut marks, &mut nodes, budget);
+    let got = run(&mut marks, &mut nodes, budget);
     show::text(label);
     answers::show_answer(got);
     show::text(b" marks");
@@ -35,13 +40,11 @@ fn show_accepted(label: &[u8], budget: u32) {
     show::end_line();
 }
 
-// The same with a budget that is not.
+// With one that is not.
 fn show_refused(label: &[u8], budget: u32) {
-    let mut log = [0i32; 40];
-    fill(&mut log);
     let mut marks = [238u8; 5];
     let mut nodes = [238u8; 88];
-    let got = lattice::run(harbour_list(), &log, &mut marks, &mut nodes, budget);
+    let got = run(&mut marks, &mut nodes, budget);
     show::text(label);
     answers::show_answer(got);
     show::text(b" node bytes not 0");
