@@ -9,4 +9,5 @@ pub mod Rows
 pub mod Empty
 pub mod Ninth
 pub mod Longest
+pub mod Cut
 pub mod Examples

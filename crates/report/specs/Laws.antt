@@ -1,3 +1,4 @@
 pub mod Values
 pub mod Report
 pub mod Examples
+pub mod Cut

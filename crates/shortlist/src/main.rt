@@ -2,8 +2,7 @@
 use libc::STDIN_FILENO;
 use libc::STDOUT_FILENO;
 
-// A longer stream is cut at 65,536 bytes, which changes nothing: wishes and named values take 542 bytes at most and 1,024 runs take
-// 33,792, so the record that refuses a longer stream ends before byte 34,367, and reading looks no further.
+// A longer stream is cut at 65,536 bytes, which changes nothing in its report (report/specs/Laws/Cut.antt: `report-cut`).
 fn main() {
     let mut stream = [0u8; 65536];
     let n = io::read_full(STDIN_FILENO, &mut stream);

@@ -107,11 +107,11 @@ module _ (r : ReadAnswer) (bs : List ℕ) (h : Columns (r .list)) (a : Accepts r
   with-short RunRecord e k = run-short e
 
 -- as long as reading goes on
-record Kept (r : ReadAnswer) : Type 0 where
+pub record Kept (r : ReadAnswer) : Type 0 where
   columns : Columns (r .list)
   short : r .number ≡ 0 → Short r
 
-kept-step : (s : List ℕ) (r : ReadAnswer) → Kept r → Kept (step s r)
+pub kept-step : (s : List ℕ) (r : ReadAnswer) → Kept r → Kept (step s r)
 kept-step s r h =
     record {
       columns = columns-step s r (h .columns);
@@ -123,14 +123,17 @@ kept-step s r h =
           (λ g. h .short);
     }
 
-records-kept : (s : List ℕ) → Kept (records s)
-unfolding records endsLayered
-records-kept s =
-    steps-keep Kept s (kept-step s) (length s) start
-    (record {
+pub kept-start : Kept start
+unfolding endsLayered
+kept-start =
+    record {
       columns = columns-zero;
       short = λ z. record { rows-few = omega arith; names-few = omega arith; short = omega arith; layered = λ y. false-true y; named = λ k. absurd (omega arith) };
-    })
+    }
+
+records-kept : (s : List ℕ) → Kept (records s)
+unfolding records
+records-kept s = steps-keep Kept s (kept-step s) (length s) start kept-start
 
 bytes-most : (r : ReadAnswer) → r .list .count ≤ 8 → Short r → r .place ≤ 34334
 bytes-most r few b = elim (decLt 0 (r .list .namings)) [
@@ -138,8 +141,10 @@ bytes-most r few b = elim (decLt 0 (r .list .namings)) [
   | no k ↦ omega (arith, few, k, b .rows-few, b .short)
 ]
 
+pub kept-small : (r : ReadAnswer) → Kept r → r .number ≡ 0 → r .place ≤ 34334
+kept-small r k z = bytes-most r (columns-few (r .list) (k .columns)) (k .short z)
+
 pub longest-accepted : (s : List ℕ) (room : ℕ) → readOf s room .number ≡ 0 → length s ≤ 34334
 longest-accepted s room e =
     let z = read-accepted s room e .going-on in
-    let k = records-kept s in
-    omega (arith, records-end s z, bytes-most (records s) (columns-few (records s .list) (k .columns)) (k .short z))
+    omega (arith, records-end s z, kept-small (records s) (records-kept s) z)
