@@ -1,6 +1,6 @@
 // Exact arithmetic on values of 32 bits: how far one lies above another, and division rounded up.
 ghost use mathlib.Core.Path.{_≡_};
-ghost use Prim.Native.Nat.{_<_};
+ghost use Prim.Native.Nat.{_+_, _<_};
 ghost use lib.Signed.{leZ};
 ghost use Rattle.arith.specs.Gap.{gap, eqZ};
 ghost use Rattle.arith.specs.Ceil.{ceilDiv};
@@ -16,16 +16,23 @@ pub fn signed_gap(a: i32, b: i32) -> u64
     d as u64
 }
 
+// How far v lies outside low..up. At most one gap is above zero, or low is above up and their sum is that gap: 32 bits hold it.
+pub fn outside(low: i32, up: i32, v: i32) -> u32
+    ensures { λ r. ⌜ r ≡ gap low v + gap v up ⌝ }
+{
+    let d = signed_gap(low, v) + signed_gap(v, up);
+    d as u32
+}
+
 // d divided by step, rounded up; 0 where step is 0.
-pub fn ceil_div(d: u64, step: u32) -> u64
+pub fn ceil_div(d: u32, step: u32) -> u32
     ensures { λ r. ⌜ r ≡ ceilDiv d step ⌝ }
 {
-    let s = step as u64;
-    if s == 0 {
+    if step == 0 {
         return 0;
     }
-    let q = d / s;
-    if d % s == 0 {
+    let q = d / step;
+    if d % step == 0 {
         return q;
     }
     q + 1

@@ -1,3 +1,4 @@
 pub mod Greatest
 pub mod Papers
 pub mod Valid
+pub mod Target

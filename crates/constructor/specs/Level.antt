@@ -8,6 +8,7 @@ use Rattle.arith.specs.Ceil.{ceilDiv}
 use Rattle.constructor.specs.declared.Constructor.{Constructor}
 use Rattle.constructor.specs.declared.Constructor.the-variants.{Lowest, Highest, Around, Between, Layered}
 use Rattle.constructor.specs.declared.Scale.{Scale}
+use Rattle.constructor.specs.declared.Target.{Target}
 use Rattle.constructor.specs.declared.Layering.{Layering}
 use Rattle.constructor.specs.declared.Layering.the-variants.{Numeric, Layers}
 
@@ -26,6 +27,14 @@ scaleOf (Highest lo hi step) = record { lo = lo; hi = hi; step = step }
 scaleOf (Around lo hi step z) = record { lo = lo; hi = hi; step = step }
 scaleOf (Between lo hi step low up) = record { lo = lo; hi = hi; step = step }
 scaleOf (Layered top others) = record { lo = negsuc 2147483647; hi = pos 2147483647; step = 1 }
+
+-- the values at distance 0; bounds that no i32 lies outside where the form has none (Laws/Target.antt)
+abbrev pub targetOf : Constructor → Target
+targetOf (Lowest lo hi step) = record { low = negsuc 2147483647; up = lo }
+targetOf (Highest lo hi step) = record { low = hi; up = pos 2147483647 }
+targetOf (Around lo hi step z) = record { low = z; up = z }
+targetOf (Between lo hi step low up) = record { low = low; up = up }
+targetOf (Layered top others) = record { low = negsuc 2147483647; up = pos 2147483647 }
 
 -- v lies in lo..hi
 unfoldable pub inside : Constructor → ℤ → Bool

@@ -1,8 +1,10 @@
 // Base preference constructors (000, section 3.1.1): what document 01 calls the five forms of a wish. Distance, level, greatest
 // level and the checks 6, 7 and 3 of one form. A sixth form is a case here and nowhere else.
 ghost use mathlib.Core.Path.{_≡_};
-ghost use Prim.Native.Nat.{max};
-ghost use Rattle.constructor.specs.Level.{distance, scaleOf, layeringOf, numericLevel, maxLevel, inside};
+ghost use Prim.Native.Nat.{_+_, max};
+ghost use Rattle.arith.specs.Gap.{gap};
+ghost use Rattle.arith.specs.Ceil.{ceilDiv};
+ghost use Rattle.constructor.specs.Level.{scaleOf, targetOf, layeringOf, numericLevel, maxLevel, inside};
 ghost use Rattle.constructor.specs.Valid.{sound, constructorNumber, layerNumber};
 
 pub enum Constructor {
@@ -40,6 +42,12 @@ pub struct Scale {
     pub lo: i32,
     pub hi: i32,
     pub step: u32,
+}
+
+// The values at distance 0, low to up: every distance is how far a value lies outside them.
+pub struct Target {
+    pub low: i32,
+    pub up: i32,
 }
 
 // What decides a level: the distance, or the layers of named values.
@@ -120,28 +128,43 @@ pub fn layering_of(c: Constructor) -> Layering
     }
 }
 
-// How far v lies from what is wished for; 0 under LAYERED.
-fn distance_of(c: Constructor, v: i32) -> u64
-    ensures { λ r. ⌜ r ≡ distance c v ⌝ }
+pub fn target_of(c: Constructor) -> Target
+    ensures { λ r. ⌜ r ≡ targetOf c ⌝ }
 {
     match c {
-        Constructor::Lowest { lo, hi: _, step: _ } => arith::signed_gap(v, lo),
-        Constructor::Highest { lo: _, hi, step: _ } => arith::signed_gap(hi, v),
+        Constructor::Lowest { lo, hi: _, step: _ } => Target {
+            low: -2147483648,
+            up: lo,
+        },
+        Constructor::Highest { lo: _, hi, step: _ } => Target {
+            low: hi,
+            up: 2147483647,
+        },
         Constructor::Around {
             lo: _,
             hi: _,
             step: _,
             z,
-        } => arith::signed_gap(v, z) + arith::signed_gap(z, v),
+        } => Target { low: z, up: z },
         Constructor::Between {
             lo: _,
             hi: _,
             step: _,
             low,
             up,
-        } => arith::signed_gap(low, v) + arith::signed_gap(v, up),
-        Constructor::Layered { top: _, others: _ } => 0,
+        } => Target { low: low, up: up },
+        Constructor::Layered { top: _, others: _ } => Target {
+            low: -2147483648,
+            up: 2147483647,
+        },
     }
+}
+
+// The level of v by its distance from low..up: one form for the five, without a match.
+pub fn level_outside(low: i32, up: i32, step: u32, v: i32) -> u64
+    ensures { λ r. ⌜ r ≡ ceilDiv (gap low v + gap v up) step ⌝ }
+{
+    arith::ceil_div(arith::outside(low, up, v), step) as u64
 }
 
 // The level of v under a form that goes by distance.
@@ -150,7 +173,10 @@ pub fn level_of(c: Constructor, v: i32) -> u64
 {
     let s = scale_of(c);
     let step = s.step;
-    arith::ceil_div(distance_of(c, v), step)
+    let t = target_of(c);
+    let low = t.low;
+    let up = t.up;
+    level_outside(low, up, step, v)
 }
 
 fn larger(a: u64, b: u64) -> u64

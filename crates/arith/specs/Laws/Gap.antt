@@ -58,6 +58,16 @@ down (negsuc a) (pos b) (negsuc c) h = omega arith
 down (negsuc a) (negsuc b) (pos c) h = let l = leb-true b a h in omega arith
 down (negsuc a) (negsuc b) (negsuc c) h = let l = leb-true b a h in omega arith
 
+through : (a b c : ℤ) → leZ b a ≡ true → leZ c b ≡ true → flat a b + flat b c ≡ flat a c
+unfolding flat
+through (pos a) (pos b) (pos c) h k = let l = leb-true b a h in let m = leb-true c b k in omega arith
+through (pos a) (pos b) (negsuc c) h k = let l = leb-true b a h in omega arith
+through (pos a) (negsuc b) (pos c) h k = false-true k
+through (pos a) (negsuc b) (negsuc c) h k = let m = leb-true b c k in omega arith
+through (negsuc a) (pos b) c h k = false-true h
+through (negsuc a) (negsuc b) (pos c) h k = false-true k
+through (negsuc a) (negsuc b) (negsuc c) h k = let l = leb-true a b h in let m = leb-true b c k in omega arith
+
 -- ---- the order of signed numbers
 
 pub le-refl-Z : (a : ℤ) → leZ a a ≡ true
@@ -89,6 +99,20 @@ gap-up a b c h = omega (arith, gap-flat a c, gap-flat b c, up a b c h)
 
 pub gap-down : (a b c : ℤ) → leZ a b ≡ true → gap c b ≤ gap c a
 gap-down a b c h = omega (arith, gap-flat c b, gap-flat c a, down a b c h)
+
+-- down from a to b, and from there down to c
+pub gap-through : (a b c : ℤ) → leZ b a ≡ true → leZ c b ≡ true → gap a b + gap b c ≡ gap a c
+gap-through a b c h k = omega (arith, gap-flat a b, gap-flat b c, gap-flat a c, through a b c h k)
+
+-- how far v lies outside low..up is one gap
+module _ (low up v : ℤ) (m : ℕ) (below : gap low v < m) (above : gap v up < m) (across : gap low up < m) where
+  outside-by : (s t : Bool) → leZ low v ≡ s → leZ v up ≡ t → gap low v + gap v up < m
+  outside-by true t e f = omega (arith, gap-none low v e)
+  outside-by false true e f = omega (arith, gap-none v up f)
+  outside-by false false e f = omega (arith, gap-through low v up (not-le-Z low v e) (not-le-Z v up f))
+
+  pub outside-small : gap low v + gap v up < m
+  outside-small = outside-by (leZ low v) (leZ v up) refl refl
 
 -- ---- document 01's words: a - b where b is not above a, and |a - b|
 
