@@ -1,2 +1,3 @@
 pub mod Part
+pub mod Runs
 pub mod Stored

@@ -10,12 +10,13 @@ use preference::PreferenceList;
 ghost use mathlib.Core.Bool.{true};
 ghost use mathlib.Core.Path.{_≡_};
 ghost use Prim.Native.Nat.{_+_, _-_, _<_, _≤_, _^_};
-ghost use lib.ListN.{length, set};
+ghost use lib.ListN.{length, getD, set};
 ghost use lib.Seq.{sets};
 ghost use Rattle.constructor.specs.Level.{layeringOf};
 ghost use Rattle.format.specs.Kinds.{kindOf, classOf, bodyOf};
 ghost use Rattle.format.specs.Read.{constructorOf, preferenceOf, namedOf, intsAt, lastConstructor, isLayers, endsLayered, outOfPlace, namingNumber, figuresNumber, isUnknown, recordNumber, zeroList, addPreference, addNamed, listAfter, rowsAfter, withRecord, refusedAt, takeRecord, goes, step, records, finish, readOf, valuesUnder, valuesOf, logAfter};
 ghost use Rattle.format.specs.Laws.Columns.{Columns};
+ghost use Rattle.format.specs.Laws.Read.{Midway, toRead};
 ghost use Rattle.format.specs.declared.Class.the-variants.{PreferenceRecord, NamedRecord, RunRecord};
 
 // ---- the kinds
@@ -381,13 +382,50 @@ fn step_on(s: &[u8], r: ReadAnswer) -> ReadAnswer
     take_record(r, t)
 }
 
+// Whether a whole run stands at a place, with room for it after so many rows.
+fn run_stands(s: &[u8], at: usize, rows: usize) -> bool
+    ensures { λ r. ⌜ (r ≡ true → (getD (now (s .entry)) at 0 ≡ 7) × (at + 33 ≤ length (now (s .entry))) × (rows < 1024)) ⌝ }
+{
+    let n = s.len();
+    if n <= at {
+        return false;
+    }
+    (33 <= n - at) & (s[at] == 7) & (rows < 1024)
+}
+
+// Runs change the place and the rows alone: the list is not carried over each of those that stand here.
+fn over_runs(s: &[u8], r: ReadAnswer) -> ReadAnswer
+    requires { ⌜ Midway (now s) r ⌝ }
+    ensures { λ a. ⌜ Midway (now (s .entry)) a × (toRead (now (s .entry)) a ≤ toRead (now (s .entry)) r) ⌝ }
+{
+    if r.number != 0 {
+        return r;
+    }
+    let list = r.list;
+    if list.count == 0 {
+        return r;
+    }
+    let mut place = r.place;
+    let mut rows = r.rows;
+    while run_stands(s, place, rows) {
+        place += 33;
+        rows += 1;
+    }
+    ReadAnswer {
+        number: 0,
+        place,
+        rows,
+        list,
+    }
+}
+
 // Every record, or the first refusal.
 fn read_records(s: &[u8]) -> ReadAnswer
     ensures { λ a. ⌜ a ≡ records (now (s .entry)) ⌝ }
 {
     let mut r = refused_at(0, 0);
     while (r.number == 0) & (r.place < s.len()) {
-        r = step_on(s, r);
+        r = over_runs(s, step_on(s, r));
     }
     r
 }

@@ -1,3 +1,4 @@
+use native.Mathlib.Nat.{lt-of-le-of-lt}
 use denote.Ref.{now}
 use Rattle.format.specs.Laws.Read.{Midway, toRead, to-read-falls, midway-start, midway-step, midway-end}
 use borrow.Author.Needs.{needs}
@@ -19,16 +20,20 @@ loop-holds c = rw (c .refused-at .ensures) (midway-start (now (c .before .before
 step-on-requires : tie.Need-step-on-requires Inv-loop μ-loop
 step-on-requires c κs = (c .before .before .before .loop .inv .columns, c .if1 .taken)
 
-loop-less : tie.Need-loop-less Inv-loop μ-loop
-loop-less c =
-    let s = now (c .before .before .before .before .before .before .before .args .s) in
-    rw (c .step-on .ensures) (to-read-falls s (c .before .before .before .before .loop .r) (c .before .if1 .taken))
-
-loop-again : tie.Need-loop-again Inv-loop μ-loop
-loop-again c =
+over-runs-requires : tie.Need-over-runs-requires Inv-loop μ-loop
+over-runs-requires c κs =
     let s = now (c .before .before .before .before .before .before .before .args .s) in
     let l = c .before .before .before .before .loop in
     rw (c .step-on .ensures) (midway-step s (l .r) (c .before .if1 .taken) (l .inv))
+
+loop-less : tie.Need-loop-less Inv-loop μ-loop
+loop-less c =
+    let s = now (c .before .before .before .before .before .before .before .before .args .s) in
+    let falls = to-read-falls s (c .before .before .before .before .before .loop .r) (c .before .before .if1 .taken) in
+    lt-of-le-of-lt (rw (c .before .step-on .ensures) at (c .over-runs .ensures .1)) falls
+
+loop-again : tie.Need-loop-again Inv-loop μ-loop
+loop-again c = c .over-runs .ensures .0
 
 returns : tie.Need-returns Inv-loop μ-loop
 returns c =
@@ -44,6 +49,7 @@ read-records-spec =
     refused-at-requires
     loop-holds
     step-on-requires
+    over-runs-requires
     loop-less
     loop-again
     returns)
