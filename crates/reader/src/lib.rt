@@ -10,10 +10,11 @@ use preference::PreferenceList;
 ghost use mathlib.Core.Bool.{true};
 ghost use mathlib.Core.Path.{_≡_};
 ghost use Prim.Native.Nat.{_+_, _-_, _<_, _≤_, _^_};
-ghost use lib.ListN.{length, getD, set};
+ghost use lib.ListN.{length, getD};
 ghost use lib.Seq.{sets};
+ghost use Rattle.word.specs.Word.{intAt};
 ghost use Rattle.constructor.specs.Level.{layeringOf};
-ghost use Rattle.format.specs.Kinds.{kindOf, classOf, bodyOf};
+ghost use Rattle.format.specs.Kinds.{kind, kindOf, classOf, bodyOf};
 ghost use Rattle.format.specs.Read.{constructorOf, preferenceOf, namedOf, intsAt, lastConstructor, isLayers, endsLayered, outOfPlace, namingNumber, figuresNumber, isUnknown, recordNumber, zeroList, addPreference, addNamed, listAfter, rowsAfter, withRecord, refusedAt, takeRecord, goes, step, records, finish, readOf, valuesUnder, valuesOf, logAfter};
 ghost use Rattle.format.specs.Laws.Columns.{Columns};
 ghost use Rattle.format.specs.Laws.Read.{Midway, toRead};
@@ -21,53 +22,25 @@ ghost use Rattle.format.specs.declared.Class.the-variants.{PreferenceRecord, Na
 
 // ---- the kinds
 
-// By the kind byte, 00 to 07.
-const KINDS: [Kind; 8] = [
-    Kind {
-        class: Class::Unknown,
-        body: 0,
-    },
-    Kind {
-        class: Class::PreferenceRecord,
-        body: 13,
-    },
-    Kind {
-        class: Class::PreferenceRecord,
-        body: 13,
-    },
-    Kind {
-        class: Class::PreferenceRecord,
-        body: 17,
-    },
-    Kind {
-        class: Class::PreferenceRecord,
-        body: 21,
-    },
-    Kind {
-        class: Class::PreferenceRecord,
-        body: 3,
-    },
-    Kind {
-        class: Class::NamedRecord,
-        body: 5,
-    },
-    Kind {
-        class: Class::RunRecord,
-        body: 32,
-    },
-];
+fn of_class(class: Class, body: usize) -> Kind
+    ensures { λ r. ⌜ r ≡ kind class body ⌝ }
+{
+    Kind { class, body }
+}
 
-// A kind past the table is unknown.
+// By the kind byte; any other than 01 to 07 is unknown.
 fn kind_of(k: u8) -> Kind
     ensures { λ r. ⌜ r ≡ kindOf k ⌝ }
 {
-    if k < 8 {
-        let i = k as usize;
-        return KINDS[i];
-    }
-    Kind {
-        class: Class::Unknown,
-        body: 0,
+    match k {
+        1 => of_class(Class::PreferenceRecord, 13),
+        2 => of_class(Class::PreferenceRecord, 13),
+        3 => of_class(Class::PreferenceRecord, 17),
+        4 => of_class(Class::PreferenceRecord, 21),
+        5 => of_class(Class::PreferenceRecord, 3),
+        6 => of_class(Class::NamedRecord, 5),
+        7 => of_class(Class::RunRecord, 32),
+        _ => of_class(Class::Unknown, 0),
     }
 }
 
@@ -449,30 +422,29 @@ fn finished(r: ReadAnswer, len: usize, room: usize) -> ReadAnswer
 
 // ---- the log
 
-// Stores v at a place, where there is one.
-fn put_value(log: &mut [i32], at: usize, v: i32)
-    ensures { λ r. ⌜ now (log .exit) ≡ set (now (log .entry)) at v ⌝ }
+// The signed number at a place that has its four bytes.
+fn whole_i32(t: &[u8], at: usize) -> i32
+    requires { ⌜ at + 4 ≤ length (now t) ⌝ }
+    ensures { λ r. ⌜ r ≡ intAt (now (t .entry)) at ⌝ }
 {
-    if at < log.len() {
-        log[at] = v;
-    }
+    word::signed(word::of_bytes(t[at], t[at + 1], t[at + 2], t[at + 3]))
 }
 
-// Stores the eight values of the run that t begins with.
+// Stores the eight values of the whole run that t begins with, where there is room for them.
 fn put_run(t: &[u8], log: &mut [i32], to: usize)
-    requires { ⌜ to < 2 ^ 63 ⌝ }
+    requires { ⌜ (32 < length (now t)) × (to + 8 ≤ length (now log)) ⌝ }
     ensures { λ r. ⌜ now (log .exit) ≡ sets (now (log .entry)) to (intsAt 8 (now (t .entry)) 1) ⌝ }
 {
     let mut i: usize = 0;
     while i < 8 {
-        put_value(log, to + i, word::get_i32(t, 1 + 4 * i));
+        log[to + i] = whole_i32(t, 1 + 4 * i);
         i += 1;
     }
 }
 
 // Stores the values of the record that t begins with, if it is a run; the place after them.
 fn put_record(t: &[u8], log: &mut [i32], to: usize) -> usize
-    requires { ⌜ to < 2 ^ 63 ⌝ }
+    requires { ⌜ (bodyOf (now t) < length (now t)) × (to + length (valuesUnder (classOf (now t)) (now t)) ≤ length (now log)) ⌝ }
     ensures { λ r. ⌜ (r ≡ to + length (valuesUnder (classOf (now (t .entry))) (now (t .entry)))) × (now (log .exit) ≡ sets (now (log .entry)) to (valuesUnder (classOf (now (t .entry))) (now (t .entry)))) ⌝ }
 {
     let class = class_of(t);
@@ -487,8 +459,9 @@ fn put_record(t: &[u8], log: &mut [i32], to: usize) -> usize
     }
 }
 
-// Stores the values of every run of the stream.
+// Stores the values of every run of a stream that is accepted.
 fn put_runs(s: &[u8], log: &mut [i32])
+    requires { ⌜ readOf (now s) (length (now log)) .number ≡ 0 ⌝ }
     ensures { λ r. ⌜ now (log .exit) ≡ sets (now (log .entry)) 0 (valuesOf (now (s .entry))) ⌝ }
 {
     let n = s.len();

@@ -2,11 +2,11 @@
 // the end does nothing.
 ghost use mathlib.Core.Path.{_≡_};
 ghost use Prim.Native.Nat.{_<_};
-ghost use lib.ListN.{getD, set};
+ghost use lib.ListN.{length, getD, set};
 ghost use lib.Seq.{sets};
 ghost use mir.Syntax.{w32};
 ghost use mir.Val.{toZ, ofZ};
-ghost use Rattle.word.specs.Word.{wordAt, intAt, wordBytes, intBytes};
+ghost use Rattle.word.specs.Word.{word, wordAt, intAt, wordBytes, intBytes};
 
 pub fn get_u8(s: &[u8], at: usize) -> u8
     ensures { λ r. ⌜ r ≡ getD (now (s .entry)) at 0 ⌝ }
@@ -21,17 +21,42 @@ fn wide(b: u8) -> u32
     b as u32
 }
 
+// The number of four bytes.
+pub fn of_bytes(a: u8, b: u8, c: u8, d: u8) -> u32
+    ensures { λ r. ⌜ r ≡ word a b c d ⌝ }
+{
+    let a = wide(a);
+    let b = wide(b);
+    let c = wide(c);
+    let d = wide(d);
+    a + 256 * (b + 256 * (c + 256 * d))
+}
+
+// The number at a place where the list may end before its fourth byte.
+fn cut_u32(s: &[u8], at: usize) -> u32
+    requires { ⌜ at < length (now s) ⌝ }
+    ensures { λ r. ⌜ r ≡ wordAt (now (s .entry)) at ⌝ }
+{
+    of_bytes(
+        get_u8(s, at),
+        get_u8(s, at + 1),
+        get_u8(s, at + 2),
+        get_u8(s, at + 3),
+    )
+}
+
+// One test for all four bytes: they are then read at once.
 pub fn get_u32(s: &[u8], at: usize) -> u32
     ensures { λ r. ⌜ r ≡ wordAt (now (s .entry)) at ⌝ }
 {
-    if s.len() <= at {
+    let n = s.len();
+    if n <= at {
         return 0;
     }
-    let a = wide(get_u8(s, at));
-    let b = wide(get_u8(s, at + 1));
-    let c = wide(get_u8(s, at + 2));
-    let d = wide(get_u8(s, at + 3));
-    a + 256 * (b + 256 * (c + 256 * d))
+    if n - at < 4 {
+        return cut_u32(s, at);
+    }
+    of_bytes(s[at], s[at + 1], s[at + 2], s[at + 3])
 }
 
 // The signed number whose two's complement is u.

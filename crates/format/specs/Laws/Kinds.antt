@@ -1,6 +1,6 @@
 -- What every row of the table of kinds has, by one computed test of the table.
 use mathlib.Core.Path.{_≡_, refl}
-use Prim.Native.Nat.{ℕ, zero, suc, _≤_}
+use Prim.Native.Nat.{ℕ, zero, suc, _*_, _≤_}
 use mathlib.Core.Bool.{Bool, true, _&&_}
 use mathlib.Core.List.{List, [], _∷_}
 use lib.Dec.{leb}
@@ -37,13 +37,13 @@ pub body-longest : (k : ℕ) → kindOf k .body ≤ longest (kindOf k .class)
 unfolding kindOf kinds every
 body-longest k = leb-true _ _ (of-every (λ (r : Kind). leb (r .body) (longest (r .class))) kinds k (kind Unknown 0) refl refl)
 
--- the numbers that a record of a class brings to the log: no more than the bytes of its body
+-- the numbers that a record of a class brings to the log: its body has four bytes for each
 abbrev pub valuesIn : Class → ℕ
 valuesIn Unknown = 0
 valuesIn PreferenceRecord = 0
 valuesIn NamedRecord = 0
 valuesIn RunRecord = 8
 
-pub body-holds : (k : ℕ) → valuesIn (kindOf k .class) ≤ kindOf k .body
+pub body-holds : (k : ℕ) → 4 * valuesIn (kindOf k .class) ≤ kindOf k .body
 unfolding kindOf kinds every
-body-holds k = leb-true _ _ (of-every (λ (r : Kind). leb (valuesIn (r .class)) (r .body)) kinds k (kind Unknown 0) refl refl)
+body-holds k = leb-true _ _ (of-every (λ (r : Kind). leb (4 * valuesIn (r .class)) (r .body)) kinds k (kind Unknown 0) refl refl)

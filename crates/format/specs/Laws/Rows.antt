@@ -68,11 +68,15 @@ module _ (s : List ℕ) where
       let all : 8 * records s .rows ≡ 0 + length (valuesOf s) = adds (length s) start refl (a .going-on) in
       omega (arith, all, ap (λ (r : ReadAnswer). r .rows) (a .answer))
 
+  -- the lent log has room for them
+  pub values-fit : (room : ℕ) → readOf s room .number ≡ 0 → length (valuesOf s) ≤ room
+  values-fit room e =
+      let a = read-accepted s room e in
+      omega (arith, values-long room e, a .fits, ap (λ (r : ReadAnswer). r .rows) (a .answer))
+
 -- the rows that reading leaves in the lent log are the values
 pub log-read : (s : List ℕ) (lent : List ℤ) → readOf s (length lent) .number ≡ 0 → take (8 * readOf s (length lent) .rows) (logAfter s lent) ≡ valuesOf s
 unfolding logAfter
 log-read s lent e =
-    let a = read-accepted s (length lent) e in
-    let long = values-long s (length lent) e in
-    let fits : length (valuesOf s) ≤ length lent = omega (arith, long, a .fits, ap (λ (r : ReadAnswer). r .rows) (a .answer)) in
-    rw (eq-eqb (readOf s (length lent) .number) 0 e) (ap (λ (n : ℕ). take n (sets lent 0 (valuesOf s))) (sym long) ∙ stored-front lent (valuesOf s) fits)
+    rw (eq-eqb (readOf s (length lent) .number) 0 e)
+    (ap (λ (n : ℕ). take n (sets lent 0 (valuesOf s))) (sym (values-long s (length lent) e)) ∙ stored-front lent (valuesOf s) (values-fit s (length lent) e))

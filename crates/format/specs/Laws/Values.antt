@@ -1,6 +1,6 @@
 -- The values of a stream's runs, record by record.
 use mathlib.Core.Path.{_≡_, refl}
-use Prim.Native.Nat.{ℕ, zero, suc, _≤_}
+use Prim.Native.Nat.{ℕ, zero, suc, _*_, _≤_}
 use native.Mathlib.Omega.{arith}
 use mathlib.Core.List.{List, []}
 use lib.ListN.{length, drop, drop-of-length-le}
@@ -17,7 +17,7 @@ values-in PreferenceRecord bs = refl
 values-in NamedRecord bs = refl
 values-in RunRecord bs = refl
 
-pub values-held : (bs : List ℕ) → length (valuesUnder (classOf bs) bs) ≤ bodyOf bs
+pub values-held : (bs : List ℕ) → 4 * length (valuesUnder (classOf bs) bs) ≤ bodyOf bs
 values-held bs = omega (arith, values-in (classOf bs) bs, body-holds (kindByte bs))
 
 none : (n : ℕ) → valuesFrom n [] ≡ []

@@ -5,7 +5,9 @@ use lib.IntN.{ℤ}
 use denote.Ref.{now}
 use Rattle.format.specs.Kinds.{classOf}
 use Rattle.format.specs.Read.{intsAt, valuesUnder}
+use Rattle.format.specs.Laws.Values.{values-held}
 use Rattle.format.specs.declared.Class.{Class}
+use Rattle.format.specs.declared.Class.the-variants.{RunRecord}
 use borrow.Author.Needs.{needs}
 use native.Mathlib.Omega.{arith}
 use Prim.Native.Nat.{ℕ, _+_}
@@ -18,6 +20,14 @@ stays : (t : List ℕ) (log : List ℤ) (to : ℕ) (class : Class) → valuesUnd
 stays t log to class n e =
     let v : valuesUnder (classOf t) t ≡ [] = ap (λ (x : Class). valuesUnder x t) e ∙ n in
     (rw v (omega arith), rw v)
+
+-- a run has eight values
+run-values : (t : List ℕ) → classOf t ≡ RunRecord → length (valuesUnder (classOf t) t) ≡ 8
+unfolding intsAt
+run-values t e = ap (λ (x : Class). length (valuesUnder x t)) e
+
+run-long : (c : tie.After-enum-told4) → let t = now (c .before .before .before .before .args .t) in length (valuesUnder (classOf t) t) ≡ 8
+run-long c = run-values (now (c .before .before .before .before .args .t)) (sym (c .before .before .class-of .ensures) ∙ c .enum-told4 .given .1)
 
 class-of-requires : tie.Need-class-of-requires
 class-of-requires c κs = search needs
@@ -35,10 +45,10 @@ enum-told-4 : tie.Need-enum-told-4
 enum-told-4 c = search needs
 
 put-run-requires : tie.Need-put-run-requires
-put-run-requires c κs = search needs
+put-run-requires c κs = let b = c .before .before .before .before .before in (omega (arith, b .pre .0, run-long (c .before), values-held (now (b .args .t))), omega (arith, b .pre .1, run-long (c .before)))
 
 add-result : tie.Need-add-result
-add-result c = search needs
+add-result c = omega (arith, c .before .before .before .before .before .before .before .pre .1, run-long (c .before .before .before))
 
 returns : tie.Need-returns
 returns c = let a = c .before .before .before .before .args in stays (now (a .t)) (now (a .log)) (a .to) _ refl (sym (c .before .before .class-of .ensures) ∙ c .enum-told .given .1)

@@ -36,20 +36,23 @@ loop-holds c =
     let a = c .before .args in
     (omega arith, refl, ap (λ (k : ℕ). sets (now (a .log)) k (intsAt 8 (now (a .t)) 1)) (omega arith))
 
-add-put-value : tie.Need-add-put-value Inv-loop μ-loop
-add-put-value c = search needs
+mul-whole-i32 : tie.Need-mul-whole-i32 Inv-loop μ-loop
+mul-whole-i32 c = search needs
 
-mul-get-i32 : tie.Need-mul-get-i32 Inv-loop μ-loop
-mul-get-i32 c = search needs
+add-whole-i32 : tie.Need-add-whole-i32 Inv-loop μ-loop
+add-whole-i32 c = search needs
 
-add-get-i32 : tie.Need-add-get-i32 Inv-loop μ-loop
-add-get-i32 c = search needs
+whole-i32-requires : tie.Need-whole-i32-requires Inv-loop μ-loop
+whole-i32-requires c κs = search needs
 
-get-i32-requires : tie.Need-get-i32-requires Inv-loop μ-loop
-get-i32-requires c κs = search needs
+add-t9 : tie.Need-add-t9 Inv-loop μ-loop
+add-t9 c = search needs
 
-put-value-requires : tie.Need-put-value-requires Inv-loop μ-loop
-put-value-requires c κs = search needs
+mul-t10 : tie.Need-mul-t10 Inv-loop μ-loop
+mul-t10 c = search needs
+
+slice-set-from-log : tie.Need-slice-set-from-log Inv-loop μ-loop
+slice-set-from-log c = omega (arith, c .before .before .before .before .pre .1, c .before .before .loop .inv .1)
 
 add-i : tie.Need-add-i Inv-loop μ-loop
 add-i c = search needs
@@ -59,16 +62,15 @@ loop-less c = search needs
 
 loop-again : tie.Need-loop-again Inv-loop μ-loop
 loop-again c =
-    let a = c .before .before .before .before .before .before .before .args in
-    let l = c .before .before .before .before .before .loop in
-    let g = c .before .before .get-i32 in
+    let a = c .before .before .before .before .args in
+    let l = c .before .before .loop in
     let v = intAt (now (a .t)) (1 + 4 * l .i) in
-    let e : toZ w32 (ofZ w32 (g .result)) ≡ v = num _ (g .ok) ∙ g .ensures in
-    let w : c .before .put-value .last .0 ≡ set (l .log) (a .to + l .i) v = c .before .put-value .ensures ∙ ap (set (l .log) (a .to + l .i)) e in (
+    let e : toZ w32 (ofZ w32 (c .whole-i32 .result)) ≡ v = num _ (c .whole-i32 .ok) ∙ c .whole-i32 .ensures in
+    let w = ap (set (l .log) (a .to + l .i)) e in (
       omega arith,
       ap length w ∙ length-set (l .log) (a .to + l .i) v ∙ l .inv .1,
       ap (λ (x : List ℤ). sets x (a .to + (l .i + 1)) (intsAt (8 - (l .i + 1)) (now (a .t)) (1 + 4 * (l .i + 1)))) w
-          ∙ next (l .log) (a .to) (l .i) (now (a .t)) (c .before .before .before .before .loop-test .taken)
+          ∙ next (l .log) (a .to) (l .i) (now (a .t)) (c .before .loop-test .taken)
           ∙ l .inv .2,
     )
 
@@ -90,11 +92,12 @@ put-run-spec =
     Inv-loop
     μ-loop
     loop-holds
-    add-put-value
-    mul-get-i32
-    add-get-i32
-    get-i32-requires
-    put-value-requires
+    mul-whole-i32
+    add-whole-i32
+    whole-i32-requires
+    add-t9
+    mul-t10
+    slice-set-from-log
     add-i
     loop-less
     loop-again

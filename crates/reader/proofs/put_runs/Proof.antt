@@ -2,12 +2,11 @@ use mathlib.Core.Path.{refl, ap, _∙_, _≡_}
 use mathlib.Core.List.{List}
 use lib.ListN.{drop, length}
 use lib.Seq.{sets}
-use lib.IntN.{ℤ}
 use denote.Ref.{now}
 use Rattle.format.specs.Kinds.{classOf, bodyOf}
 use Rattle.format.specs.Read.{valuesUnder}
 use Rattle.reader.proofs.Part.{part}
-use Rattle.reader.proofs.Stored.{Stored, stored-none, stored-more, stored-all}
+use Rattle.reader.proofs.Stored.{Next, Stored, valuesAt, stored-none, stored-next, stored-all}
 use borrow.Author.Needs.{needs}
 use native.Mathlib.Omega.{arith}
 use Prim.Native.Nat.{ℕ, _-_, _+_}
@@ -20,11 +19,15 @@ Inv-loop s log₀ n at₀ to₀ log at to = (n ≡ length s) × Stored s log₀ 
 abbrev μ-loop : tie.MeasureT-loop
 μ-loop s log₀ n at₀ to₀ log at to = length s - at
 
-abbrev stored : List ℕ → List ℤ
-stored t = valuesUnder (classOf t) t
+-- the record at the place of the loop
+here : (c : tie.In-loop Inv-loop μ-loop) → let a = c .before .before .before .args in let l = c .before .loop in Next (now (a .s)) (now (a .log)) (l .log) (l .at) (l .to)
+here c =
+    let b = c .before .before .before in
+    let l = c .before .loop in
+    stored-next (now (b .args .s)) (now (b .args .log)) (l .log) (l .at) (l .to) (b .pre) (c .loop-test .taken) (l .inv .1)
 
 loop-holds : tie.Need-loop-holds Inv-loop μ-loop
-loop-holds c = (refl, stored-none (now (c .before .args .s)) (now (c .before .args .log)))
+loop-holds c = (refl, stored-none (now (c .before .args .s)) (now (c .before .args .log)) (c .before .pre))
 
 sub-t : tie.Need-sub-t Inv-loop μ-loop
 sub-t c = omega arith
@@ -36,7 +39,10 @@ part-t-end : tie.Need-part-t-end Inv-loop μ-loop
 part-t-end c = omega arith
 
 put-record-requires : tie.Need-put-record-requires Inv-loop μ-loop
-put-record-requires c κs = omega (arith, c .before .before .before .loop .inv .1 .behind)
+put-record-requires c κs =
+    let s = now (c .before .before .before .before .before .args .s) in
+    let n = here (c .before .before) in
+    rw (part s (c .before .before .before .loop .at)) (n .body-here, n .room-here)
 
 body-of-requires : tie.Need-body-of-requires Inv-loop μ-loop
 body-of-requires c κs = search needs
@@ -56,10 +62,10 @@ loop-again c =
     let l = c .before .before .before .before .before .before .loop in
     let p = c .before .before .put-record in
     let e = part s (l .at) in
-    let to : p .result ≡ l .to + length (stored (drop (l .at) s)) = p .ensures .0 ∙ ap (λ (t : List ℕ). l .to + length (stored t)) e in
-    let log : p .last .1 .0 ≡ sets (l .log) (l .to) (stored (drop (l .at) s)) = p .ensures .1 ∙ ap (λ (t : List ℕ). sets (l .log) (l .to) (stored t)) e in
+    let to : p .result ≡ l .to + length (valuesAt s (l .at)) = p .ensures .0 ∙ ap (λ (t : List ℕ). l .to + length (valuesUnder (classOf t) t)) e in
+    let log : p .last .1 .0 ≡ sets (l .log) (l .to) (valuesAt s (l .at)) = p .ensures .1 ∙ ap (λ (t : List ℕ). sets (l .log) (l .to) (valuesUnder (classOf t) t)) e in
     let b : c .body-of .result ≡ bodyOf (drop (l .at) s) = c .body-of .ensures .0 ∙ ap bodyOf e in
-    (refl, rw (log, to, b) (stored-more s _ (l .log) (l .at) (l .to) (c .before .before .before .before .before .loop-test .taken) (l .inv .1)))
+    (refl, rw (log, to, b) (here (c .before .before .before .before .before) .stored))
 
 same-length : tie.Need-same-length Inv-loop μ-loop
 same-length c = c .before .loop .inv .1 .same

@@ -21,7 +21,7 @@ finished-requires : tie.Need-finished-requires
 finished-requires c κs = search needs
 
 put-runs-requires : tie.Need-put-runs-requires
-put-runs-requires c κs = search needs
+put-runs-requires c κs = sym (ap (λ (r : ReadAnswer). r .number) (all-read (c .before .before .before))) ∙ c .before .if1 .taken
 
 same-length : tie.Need-same-length
 same-length c = search needs

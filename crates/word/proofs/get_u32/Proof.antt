@@ -1,90 +1,66 @@
+use borrow.Author.Needs.{needs}
 use mathlib.Core.Path.{sym}
+use borrow.Author.Needs.{needs}
 use denote.Ref.{now}
 use Rattle.word.specs.Word.{wordAt}
 use Rattle.word.specs.Laws.Word.{word-out}
-use borrow.Author.Needs.{needs}
-use native.Mathlib.Omega.{arith}
 use Rattle.word.proofs.get_u32.Statement.{statement}
 use Rattle.word.proofs.get_u32.Tie as tie
 
 returns : tie.Need-returns
 returns c = sym (word-out (now (c .before .before .args .s)) (c .before .before .args .at) (c .if1 .taken))
 
-get-u8-requires : tie.Need-get-u8-requires
-get-u8-requires c κs = search needs
+sub-if2 : tie.Need-sub-if2
+sub-if2 c = search needs
 
-wide-requires : tie.Need-wide-requires
-wide-requires c κs = search needs
-
-add-get-u8 : tie.Need-add-get-u8
-add-get-u8 c = search needs
-
-get-u8-requires-2 : tie.Need-get-u8-requires-2
-get-u8-requires-2 c κs = search needs
-
-wide-requires-2 : tie.Need-wide-requires-2
-wide-requires-2 c κs = search needs
-
-add-get-u8-2 : tie.Need-add-get-u8-2
-add-get-u8-2 c = search needs
-
-get-u8-requires-3 : tie.Need-get-u8-requires-3
-get-u8-requires-3 c κs = search needs
-
-wide-requires-3 : tie.Need-wide-requires-3
-wide-requires-3 c κs = search needs
-
-add-get-u8-3 : tie.Need-add-get-u8-3
-add-get-u8-3 c = search needs
-
-get-u8-requires-4 : tie.Need-get-u8-requires-4
-get-u8-requires-4 c κs = search needs
-
-wide-requires-4 : tie.Need-wide-requires-4
-wide-requires-4 c κs = search needs
-
-mul-result : tie.Need-mul-result
-mul-result c = search needs
-
-add-result : tie.Need-add-result
-add-result c = search needs
-
-mul-result-2 : tie.Need-mul-result-2
-mul-result-2 c = search needs
-
-add-result-2 : tie.Need-add-result-2
-add-result-2 c = search needs
-
-mul-result-3 : tie.Need-mul-result-3
-mul-result-3 c = search needs
-
-add-result-3 : tie.Need-add-result-3
-add-result-3 c = search needs
+cut-u32-requires : tie.Need-cut-u32-requires
+cut-u32-requires c κs = search needs
 
 returns-2 : tie.Need-returns-2
+returns-2 c = c .cut-u32 .ensures
+
+shared-slice-read-of-bytes : tie.Need-shared-slice-read-of-bytes
+shared-slice-read-of-bytes c = search needs
+
+add-of-bytes : tie.Need-add-of-bytes
+add-of-bytes c = search needs
+
+shared-slice-read-of-bytes-2 : tie.Need-shared-slice-read-of-bytes-2
+shared-slice-read-of-bytes-2 c = search needs
+
+add-of-bytes-2 : tie.Need-add-of-bytes-2
+add-of-bytes-2 c = search needs
+
+shared-slice-read-of-bytes-3 : tie.Need-shared-slice-read-of-bytes-3
+shared-slice-read-of-bytes-3 c = search needs
+
+add-of-bytes-3 : tie.Need-add-of-bytes-3
+add-of-bytes-3 c = search needs
+
+shared-slice-read-of-bytes-4 : tie.Need-shared-slice-read-of-bytes-4
+shared-slice-read-of-bytes-4 c = search needs
+
+of-bytes-requires : tie.Need-of-bytes-requires
+of-bytes-requires c κs = search needs
+
+returns-3 : tie.Need-returns-3
 unfolding wordAt
-returns-2 c = omega arith
+returns-3 c = c .of-bytes .ensures
 
 pub get-u32-spec : {M : Type 1} → statement M
 get-u32-spec =
     tie.close
     (tie.spec
     returns
-    get-u8-requires
-    wide-requires
-    add-get-u8
-    get-u8-requires-2
-    wide-requires-2
-    add-get-u8-2
-    get-u8-requires-3
-    wide-requires-3
-    add-get-u8-3
-    get-u8-requires-4
-    wide-requires-4
-    mul-result
-    add-result
-    mul-result-2
-    add-result-2
-    mul-result-3
-    add-result-3
-    returns-2)
+    sub-if2
+    cut-u32-requires
+    returns-2
+    shared-slice-read-of-bytes
+    add-of-bytes
+    shared-slice-read-of-bytes-2
+    add-of-bytes-2
+    shared-slice-read-of-bytes-3
+    add-of-bytes-3
+    shared-slice-read-of-bytes-4
+    of-bytes-requires
+    returns-3)
