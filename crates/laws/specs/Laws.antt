@@ -6,3 +6,4 @@ pub mod Stores
 pub mod Checks
 pub mod First
 pub mod Outcome
+pub mod Written

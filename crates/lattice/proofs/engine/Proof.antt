@@ -10,7 +10,7 @@ use Rattle.runs.specs.Log.{rowCount}
 use Rattle.preference.specs.Parts.{maxLevels}
 use Rattle.preference.specs.Laws.Parts.{parts-few}
 use Rattle.nodes.specs.Lattice.{nodeCount}
-use Rattle.lattice.specs.Progress.{Weighed}
+use Rattle.lattice.specs.Numbers.{Weighed}
 use Rattle.lattice.specs.Laws.Ran.{Passed, passed, too-many, too-short, spent, through}
 use Rattle.lattice.proofs.engine.Statement.{statement}
 use Rattle.lattice.proofs.engine.Tie as tie

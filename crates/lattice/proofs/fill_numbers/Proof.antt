@@ -3,8 +3,8 @@ use Prim.Native.Nat.{_-_}
 use native.Mathlib.Omega.{arith}
 use borrow.Author.Needs.{needs}
 use Rattle.runs.specs.Log.{rowCount}
-use Rattle.lattice.specs.Progress.{rowNode, rowNodes}
-use Rattle.lattice.proofs.Written.{Written, none-written, one-written, all-written}
+use Rattle.lattice.specs.Numbers.{rowNode, rowNodes}
+use Rattle.laws.specs.Laws.Written.{Written, none-written, one-written, all-written}
 use Rattle.lattice.proofs.fill_numbers.Statement.{statement}
 use Rattle.lattice.proofs.fill_numbers.Tie as tie
 

@@ -8,7 +8,7 @@ use lib.ListN.{length, take, drop, replicate, length-append, length-replicate}
 use lib.Seq.{length-take-le, take-at}
 use Rattle.runs.specs.Laws.Log.{accepted}
 use Rattle.preference.specs.Parts.{maxLevels}
-use Rattle.lattice.specs.Progress.{Settles}
+use Rattle.walk.specs.Progress.{Settles}
 use Rattle.lattice.proofs.walk_rows.Statement.{statement}
 use Rattle.lattice.proofs.walk_rows.Tie as tie
 

@@ -26,7 +26,8 @@ use Rattle.nodes.specs.Steps.{weightsOf}
 use Rattle.nodes.specs.Laws.Some.{All}
 use Rattle.nodes.specs.Laws.Walk.{trail-crossed, bytes-final}
 use Rattle.lattice.specs.Engine.{latticeNumber, nodesLeft, Ran}
-use Rattle.lattice.specs.Progress.{rowNodes, crossed, Settles}
+use Rattle.walk.specs.Progress.{crossed, Settles}
+use Rattle.lattice.specs.Numbers.{rowNodes}
 use Rattle.lattice.specs.Laws.Rows.{rows-hold, vectors-within, rows-marked}
 use Rattle.lattice.specs.declared.LatticeAnswer.the-variants.{Crossed, Refused}
 

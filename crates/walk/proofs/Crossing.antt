@@ -8,7 +8,7 @@ use borrow.Author.Tests.{le-leb, lt-leb}
 use lib.ListN.{length}
 use Rattle.laws.specs.Laws.Bools.{false-true}
 use Rattle.nodes.specs.Steps.{updated, enteredByte}
-use Rattle.lattice.specs.Progress.{Crosses}
+use Rattle.walk.specs.Progress.{Crosses}
 
 module _ (targets : List ℕ) (made budget : ℕ) (before after : List ℕ) (n : ℕ) where
   pub ran-out : budget < made + length targets → Crosses targets made budget before after false n

@@ -3,9 +3,8 @@ use lib.ListN.{getD, List·getD-eq-default}
 use mathlib.Core.Path.{_≡_}
 use Rattle.nodes.specs.Steps.{byteMark}
 use borrow.Author.Needs.{needs}
-use Prim.Native.Nat.{_-_}
-use Rattle.lattice.proofs.mark_of.Statement.{statement}
-use Rattle.lattice.proofs.mark_of.Tie as tie
+use Rattle.walk.proofs.mark_of.Statement.{statement}
+use Rattle.walk.proofs.mark_of.Tie as tie
 
 shared-slice-read-if2 : tie.Need-shared-slice-read-if2
 shared-slice-read-if2 c = search needs

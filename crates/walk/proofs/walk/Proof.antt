@@ -12,10 +12,10 @@ use borrow.Author.Tests.{leb-true, leb-false, ne-eqb, not-true, not-false}
 use lib.ListN.{length, getD, length-append}
 use Rattle.nodes.specs.Steps.{edgesBy, updated, enteredByte, trail}
 use Rattle.nodes.specs.Laws.Steps.{length-updated, updated-append}
-use Rattle.lattice.specs.Progress.{Crosses}
-use Rattle.lattice.proofs.Crossing.{ran-out, went-through}
-use Rattle.lattice.proofs.walk.Statement.{statement}
-use Rattle.lattice.proofs.walk.Tie as tie
+use Rattle.walk.specs.Progress.{Crosses}
+use Rattle.walk.proofs.Crossing.{ran-out, went-through}
+use Rattle.walk.proofs.walk.Statement.{statement}
+use Rattle.walk.proofs.walk.Tie as tie
 
 record Standing (weights nodes₀ : List ℕ) (budget : ℕ) (nodes : List ℕ) (x made : ℕ) : Type 0 where
   low : x ≤ length nodes₀

@@ -9,12 +9,12 @@ use borrow.Author.Needs.{needs}
 use borrow.Author.Tests.{lt-ltb, le-ltb}
 use lib.ListN.{length, getD, drop, set, length-set, drop-of-length-le}
 use lib.Seq.{drop-cons}
-use Rattle.lattice.proofs.Crossing.{ran-out, went-through}
+use Rattle.walk.proofs.Crossing.{ran-out, went-through}
 use Rattle.nodes.specs.Steps.{Weights, edgesBy, updated, enteredByte}
 use Rattle.nodes.specs.Laws.Some.{All}
 use Rattle.nodes.specs.Laws.Steps.{weight-some, weight-small, targets-inside}
-use Rattle.lattice.proofs.cross.Statement.{statement}
-use Rattle.lattice.proofs.cross.Tie as tie
+use Rattle.walk.proofs.cross.Statement.{statement}
+use Rattle.walk.proofs.cross.Tie as tie
 
 -- what is left to do: the edges for the parts from i on are yet to be crossed
 record Left (weights nodes₀ : List ℕ) (x made budget : ℕ) (nodes : List ℕ) (i span rest n : ℕ) : Type 0 where

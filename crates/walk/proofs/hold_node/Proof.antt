@@ -1,9 +1,8 @@
 use lib.Seq.{set-out}
 use mathlib.Core.Path.{sym}
 use borrow.Author.Needs.{needs}
-use Prim.Native.Nat.{_-_}
-use Rattle.lattice.proofs.hold_node.Statement.{statement}
-use Rattle.lattice.proofs.hold_node.Tie as tie
+use Rattle.walk.proofs.hold_node.Statement.{statement}
+use Rattle.walk.proofs.hold_node.Tie as tie
 
 slice-write-nodes : tie.Need-slice-write-nodes
 slice-write-nodes c = search needs

@@ -1,4 +1,4 @@
--- `lattice::clear` meets its contract: after i turns the first i bytes are 0. Assumes nothing.
+-- `walk::clear` meets its contract: after i turns the first i bytes are 0. Assumes nothing.
 use mathlib.Core.Path.{_≡_, refl, ap, _∙_}
 use mathlib.Core.List.{List, _++_, append-nil}
 use Prim.Native.Nat.{ℕ, _≤_, _-_}
@@ -7,8 +7,8 @@ use native.Mathlib.Omega.{arith}
 use lib.ListN.{length, drop, set, replicate, length-set}
 use lib.Seq.{drop-length}
 use borrow.Author.Fill.{fill-more}
-use Rattle.lattice.proofs.clear.Statement.{statement}
-use Rattle.lattice.proofs.clear.Tie as tie
+use Rattle.walk.proofs.clear.Statement.{statement}
+use Rattle.walk.proofs.clear.Tie as tie
 
 abbrev Inv-loop : tie.InvT-loop
 Inv-loop bytes₀ i₀ bytes i = (i ≤ length bytes₀) × (length bytes ≡ length bytes₀) × (bytes ≡ replicate i 0 ++ drop i bytes₀)

@@ -5,9 +5,9 @@ use native.Mathlib.Omega.{arith}
 use borrow.Author.Needs.{needs}
 use lib.ListN.{length, getD}
 use Rattle.nodes.specs.Steps.{byteMark, markedBy}
-use Rattle.lattice.proofs.Written.{Written, none-written, one-written, all-written}
-use Rattle.lattice.proofs.write_marks.Statement.{statement}
-use Rattle.lattice.proofs.write_marks.Tie as tie
+use Rattle.laws.specs.Laws.Written.{Written, none-written, one-written, all-written}
+use Rattle.walk.proofs.write_marks.Statement.{statement}
+use Rattle.walk.proofs.write_marks.Tie as tie
 
 -- the mark of row r
 abbrev mark : List ℕ → List ℕ → ℕ → ℕ

@@ -1,9 +1,9 @@
--- `lattice::enter` meets its contract. Assumes nothing.
+-- `walk::enter` meets its contract. Assumes nothing.
 use borrow.Author.Needs.{needs}
 use borrow.Author.Tests.{lt-ltb, le-ltb}
 use Rattle.nodes.specs.Steps.{enteredByte}
-use Rattle.lattice.proofs.enter.Statement.{statement}
-use Rattle.lattice.proofs.enter.Tie as tie
+use Rattle.walk.proofs.enter.Statement.{statement}
+use Rattle.walk.proofs.enter.Tie as tie
 
 add-result : tie.Need-add-result
 add-result c = search needs

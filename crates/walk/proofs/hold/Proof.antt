@@ -8,8 +8,8 @@ use borrow.Author.Needs.{needs}
 use lib.ListN.{length, getD, drop, set, length-set, drop-of-length-le}
 use lib.Seq.{drop-cons}
 use Rattle.nodes.specs.Steps.{updated, heldByte}
-use Rattle.lattice.proofs.hold.Statement.{statement}
-use Rattle.lattice.proofs.hold.Tie as tie
+use Rattle.walk.proofs.hold.Statement.{statement}
+use Rattle.walk.proofs.hold.Tie as tie
 
 record Left (numbers nodes₀ nodes : List ℕ) (r : ℕ) : Type 0 where
   low : r ≤ length numbers
