@@ -1,8 +1,2 @@
-pub mod Entries
-pub mod Packed
-pub mod Scanning
-pub mod Judging
-pub mod Passing
-pub mod Running
 pub mod Table
 pub mod Answering

@@ -4,7 +4,6 @@ use Rattle.bnl.specs.Engine.{windowNumber}
 use Rattle.bnl.specs.Laws.Accepted.{accepted}
 use Rattle.bnl.proofs.Answering.{refused-answer, accepted-answer}
 use borrow.Author.Needs.{needs}
-use Prim.Native.Nat.{_-_}
 use lib.ListN.{length}
 use Rattle.bnl.proofs.run.Statement.{statement}
 use Rattle.bnl.proofs.run.Tie as tie

@@ -9,7 +9,7 @@ use Rattle.bnl.specs.Laws.Marks.{machine-best, count-small}
 use Rattle.bnl.proofs.Table.{filled-machine}
 use borrow.Author.Needs.{needs}
 use native.Mathlib.Omega.{arith}
-use Prim.Native.Nat.{ℕ, _-_, _+_}
+use Prim.Native.Nat.{ℕ, _+_}
 use Rattle.bnl.proofs.run_accepted.Statement.{statement}
 use Rattle.bnl.proofs.run_accepted.Tie as tie
 

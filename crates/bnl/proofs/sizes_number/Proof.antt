@@ -5,7 +5,6 @@ use borrow.Author.Tests.{lt-ltb, le-ltb}
 use Rattle.laws.specs.Checks.{_gives_, _then_}
 use Rattle.bnl.specs.Engine.{sizesNumber}
 use borrow.Author.Needs.{needs}
-use Prim.Native.Nat.{_-_}
 use Rattle.bnl.proofs.sizes_number.Statement.{statement}
 use Rattle.bnl.proofs.sizes_number.Tie as tie
 

@@ -1,0 +1,6 @@
+pub mod Entries
+pub mod Packed
+pub mod Scanning
+pub mod Judging
+pub mod Passing
+pub mod Running

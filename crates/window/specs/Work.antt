@@ -1,0 +1,131 @@
+-- How the engine holds the machine's state, and what its functions promise. Entry i of the work list is its row at 2 i and its
+-- timestamp at 2 i + 1: the window from entry 0 on, what waits and the overflow from entry w on.
+use Prim.Native.Nat.{ℕ, zero, suc, _+_, _*_, _≤_, _<_}
+use mathlib.Core.Path.{_≡_}
+use mathlib.Core.Bool.{Bool, true, false, not}
+use mathlib.Core.List.{List, [], _∷_}
+use lib.Dec.{eqb}
+use lib.ListN.{getD, set, length}
+use Rattle.laws.specs.Lists.{passing}
+use Rattle.pareto.specs.Table.{compared}
+use Rattle.machine.specs.Machine.{Entry, State, keep, marked, older, younger, dominated, compares, spares, judge, read, pass, passes}
+use Rattle.window.specs.declared.Standing.{Standing}
+use Rattle.window.specs.declared.Verdict.{Verdict}
+
+-- row a of a level table dominates row b
+unfoldable pub tableDominates : List ℕ → ℕ → ℕ → Bool
+tableDominates table a b = eqb (compared table a b) 1
+
+-- all rows below n
+abbrev pub allRows : ℕ → List ℕ
+allRows n = passing (λ r. true) n
+
+-- ---- entries
+
+unfoldable pub entryAt : List ℕ → ℕ → Entry
+entryAt l i = record { row = getD l (2 * i) 0; timestamp = getD l (2 * i + 1) 0 }
+
+-- n entries from entry i on
+unfoldable pub entries : List ℕ → ℕ → ℕ → List Entry
+entries l i zero = []
+entries l i (suc n) = entryAt l i ∷ entries l (suc i) n
+
+-- an entry stored at place i
+unfoldable pub putEntry : List ℕ → ℕ → ℕ → ℕ → List ℕ
+putEntry l i r s = set (set l (2 * i) r) (2 * i + 1) s
+
+unfoldable pub stateOf : ℕ → List ℕ → List ℕ → ℕ → ℕ → ℕ → ℕ → State
+stateOf w l m held aside clock count = record { window = entries l 0 held; overflow = entries l w aside; marks = m; clock = clock; count = count }
+
+-- the state that the work list l, the marks m and a standing hold
+abbrev pub stateAt : ℕ → List ℕ → List ℕ → Standing → State
+stateAt w l m p = stateOf w l m (p .held) (p .overflow) (p .clock) (p .count)
+
+-- ---- what each function promises, of the work list l before and l′ after it
+
+-- the first n entries filtered by p: m of them stay, and the entries behind are as they were
+pub record Filtered (p : Entry → Bool) (l l′ : List ℕ) (n m : ℕ) : Type 0 where
+  pub few : m ≤ n
+  pub long : length l′ ≡ length l
+  pub kept : entries l′ 0 m ≡ keep p (entries l 0 n)
+  pub rest : (j : ℕ) → n ≤ j → entryAt l′ j ≡ entryAt l j
+
+-- the first n entries were released by a row with timestamp s: m of them stay, the rows of the others are marked
+pub record Released (s : ℕ) (l l′ : List ℕ) (n m : ℕ) (marks marks′ : List ℕ) : Type 0 where
+  pub filtered : Filtered (younger s) l l′ n m
+  pub marks-are : marks′ ≡ marked (keep (older s) (entries l 0 n)) marks
+
+-- a flag of 2 says that the test p takes the entry out
+abbrev pub Flags : (Entry → Bool) → List ℕ → ℕ → List ℕ → Type 0
+Flags p l n flags = (j : ℕ) → j < n → eqb (getD flags j 0) 2 ≡ not (p (entryAt l j))
+
+-- the test that takes no entry out
+unfoldable pub every : Entry → Bool
+every e = true
+
+-- row r was compared with the first n entries
+pub record Scanned (dom : ℕ → ℕ → Bool) (r : ℕ) (l : List ℕ) (n : ℕ) (flags : List ℕ) (v : Verdict) : Type 0 where
+  pub dropped-is : v .dropped ≡ dominated dom r (entries l 0 n)
+  pub count-is : v .compares ≡ compares dom r (entries l 0 n)
+  pub flags-are : v .dropped ≡ false → Flags (spares dom r) l n flags
+  pub none-are : v .dropped ≡ false → v .dominates ≡ false → Flags every l n flags
+
+-- there is room for one more entry, and no number is near its end
+pub record Ready (w size flags : ℕ) (p : Standing) : Type 0 where
+  pub narrow : w ≤ 1024
+  pub flagged : w ≤ flags
+  pub fit : p .held ≤ w
+  pub few : p .overflow ≤ 1023
+  pub room : 2 * (w + p .overflow) + 1 < size
+  pub early : p .clock < 2000000000
+  pub small : p .count < 1000000000000000
+
+-- how far a standing has come by one read
+pub record Onward (w : ℕ) (l : List ℕ) (p : Standing) (l′ : List ℕ) (p′ : Standing) : Type 0 where
+  pub fit : p′ .held ≤ w
+  pub few : p′ .overflow ≤ p .overflow + 1
+  pub ticks : p′ .clock ≡ p .clock + 1
+  pub small : p′ .count ≤ p .count + 1024
+  pub rest : (j : ℕ) → w + p .overflow + 1 ≤ j → entryAt l′ j ≡ entryAt l j
+
+-- row r was judged; the marks, any m, play no part
+pub record Judged (dom : ℕ → ℕ → Bool) (w r : ℕ) (l : List ℕ) (p : Standing) (l′ : List ℕ) (p′ : Standing) : Type 0 where
+  pub state : (m : List ℕ) → stateAt w l′ m p′ ≡ judge dom w r (stateAt w l m p)
+  pub onward : Onward w l p l′ p′
+
+-- x was read
+pub record Read (dom : ℕ → ℕ → Bool) (w : ℕ) (x : Entry) (l m : List ℕ) (p : Standing) (l′ m′ : List ℕ) (p′ : Standing) : Type 0 where
+  pub state : stateAt w l′ m′ p′ ≡ read dom w x (stateAt w l m p)
+  pub onward : Onward w l p l′ p′
+
+-- a pass over the n entries that wait may begin
+pub record PassReady (w n size flags : ℕ) (p : Standing) : Type 0 where
+  pub narrow : w ≤ 1024
+  pub flagged : w ≤ flags
+  pub rows : n ≤ 1024
+  pub fit : p .held ≤ w
+  pub none : p .overflow ≡ 0
+  pub room : 2 * (w + n) ≤ size
+  pub early : p .clock + n < 2000000000
+  pub small : p .count + 1024 * n < 1000000000000000
+
+-- the n entries that waited were read
+pub record Passed (dom : ℕ → ℕ → Bool) (w n : ℕ) (l m : List ℕ) (p : Standing) (l′ m′ : List ℕ) (p′ : Standing) : Type 0 where
+  pub state : stateAt w l′ m′ p′ ≡ pass dom w (entries l w n) (stateAt w l m p)
+  pub fit : p′ .held ≤ w
+  pub few : p′ .overflow ≤ n
+  pub ticks : p′ .clock ≡ p .clock + n
+  pub small : p′ .count ≤ p .count + 1024 * n
+
+-- the passes may begin
+pub record RunReady (w n fuel size flags : ℕ) : Type 0 where
+  pub narrow : w ≤ 1024
+  pub flagged : w ≤ flags
+  pub rows : n ≤ 1024
+  pub turns : fuel ≤ 1048577
+  pub room : 2 * (w + n) ≤ size
+
+-- the passes were made, from a standing of zeros
+pub record Ran (dom : ℕ → ℕ → Bool) (w n fuel : ℕ) (l m m′ : List ℕ) (count : ℕ) : Type 0 where
+  pub count-is : count ≡ passes dom w fuel (entries l w n) (stateOf w l m 0 0 0 0) .count
+  pub marks-are : m′ ≡ passes dom w fuel (entries l w n) (stateOf w l m 0 0 0 0) .marks

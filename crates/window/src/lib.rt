@@ -1,0 +1,313 @@
+// The window machine on the rows of a level table, in a lent work list. A part of the window engine, and no call open to others: `bnl` meets
+// what its calls require.
+ghost use mathlib.Core.Path.{_≡_};
+ghost use Prim.Native.Nat.{ℕ, _+_, _*_, _<_, _≤_};
+ghost use mathlib.Core.Bool.{Bool, false};
+ghost use mathlib.Core.List.{map};
+ghost use lib.ListN.{getD, set, length, replicate};
+ghost use Rattle.machine.specs.Machine.{Entry, marked, unread, machine};
+ghost use Rattle.window.specs.Work.{tableDominates, allRows, entries, putEntry, Filtered, Released, every, Flags, Scanned, Ready, Judged, Read, PassReady, Passed, RunReady, Ran};
+
+// ---- the lent lists: a place past the end reads as 0, and a store there does nothing
+
+fn word(work: &[u32], i: usize) -> u32
+    ensures { λ n. ⌜ n ≡ getD (now (work .entry)) i 0 ⌝ }
+{
+    if i < work.len() { work[i] } else { 0 }
+}
+
+fn store(work: &mut [u32], i: usize, n: u32)
+    ensures { λ _. ⌜ now (work .exit) ≡ set (now (work .entry)) i n ⌝ }
+{
+    if i < work.len() {
+        work[i] = n;
+    }
+}
+
+fn put_entry(work: &mut [u32], i: usize, row: u32, timestamp: u32)
+    requires { ⌜ i ≤ 4096 ⌝ }
+    ensures { λ _. ⌜ now (work .exit) ≡ putEntry (now (work .entry)) i row timestamp ⌝ }
+{
+    store(work, 2 * i, row);
+    store(work, 2 * i + 1, timestamp);
+}
+
+fn mark(marks: &mut [u8], row: usize)
+    ensures { λ _. ⌜ now (marks .exit) ≡ set (now (marks .entry)) row 1 ⌝ }
+{
+    if row < marks.len() {
+        marks[row] = 1;
+    }
+}
+
+// ---- reading one row
+
+// Whether a row is dropped, whether it dominates an entry, and how many compares told so.
+pub struct Verdict {
+    pub dropped: bool,
+    pub dominates: bool,
+    pub compares: usize,
+}
+
+// Compares a row with the window's entries, the oldest that is left first, until one dominates it. Each compare is kept as a flag for
+// `remove`.
+fn scan(table: &[u16], work: &[u32], held: usize, row: u32, flags: &mut [u8]) -> Verdict
+    requires { ⌜ (held ≤ 1024) × (held ≤ length (now flags)) ⌝ }
+    ensures { λ v. ⌜ Scanned (tableDominates (now (table .entry))) row (now (work .entry)) held (now (flags .exit)) v ⌝ }
+{
+    let mut dominates = false;
+    let mut left = held;
+    while 0 < left {
+        let at = held - left;
+        let relation = pareto::compare(table, word(work, 2 * at) as usize, row as usize);
+        if relation == 1 {
+            return Verdict {
+                dropped: true,
+                dominates,
+                compares: at + 1,
+            };
+        }
+        dominates = dominates | (relation == 2);
+        flags[at] = relation;
+        left -= 1;
+    }
+    Verdict {
+        dropped: false,
+        dominates,
+        compares: held,
+    }
+}
+
+// Removes the entries whose flag is 2, where there is `some`; how many stay comes back.
+fn remove(flags: &[u8], work: &mut [u32], held: usize, some: bool) -> usize
+    requires { ⌜ (held ≤ 1024) × (held ≤ length (now flags)) × (2 * held ≤ length (now work)) × (some ≡ false → Flags every (now work) held (now flags)) ⌝ }
+    ensures { λ m. ⌜ ((p : Entry → Bool) → Flags p (now (work .entry)) held (now (flags .entry)) → Filtered p (now (work .entry)) (now (work .exit)) held m) ⌝ }
+{
+    if !some {
+        return held;
+    }
+    let mut i: usize = 0;
+    let mut m: usize = 0;
+    while i < held {
+        let row = word(work, 2 * i);
+        let timestamp = word(work, 2 * i + 1);
+        if flags[i] != 2 {
+            put_entry(work, m, row, timestamp);
+            m += 1;
+        }
+        i += 1;
+    }
+    m
+}
+
+// Releases the entries with a timestamp below s: their rows are marked. How many stay comes back.
+fn release(work: &mut [u32], held: usize, s: u32, marks: &mut [u8]) -> usize
+    requires { ⌜ (held ≤ 1024) × (2 * held ≤ length (now work)) ⌝ }
+    ensures { λ m. ⌜ Released s (now (work .entry)) (now (work .exit)) held m (now (marks .entry)) (now (marks .exit)) ⌝ }
+{
+    if s == 0 {
+        return held;
+    }
+    let mut i: usize = 0;
+    let mut m: usize = 0;
+    while i < held {
+        let row = word(work, 2 * i);
+        let timestamp = word(work, 2 * i + 1);
+        if timestamp < s {
+            mark(marks, row as usize);
+        } else {
+            put_entry(work, m, row, timestamp);
+            m += 1;
+        }
+        i += 1;
+    }
+    m
+}
+
+// Where the machine stands, beside its lists: entries in the window, entries set aside, the clock, the compares made.
+pub struct Standing {
+    pub held: usize,
+    pub overflow: usize,
+    pub clock: u32,
+    pub count: usize,
+}
+
+// Compares a row with the window, and drops it, enters it or sets it aside.
+fn judge(
+    table: &[u16],
+    w: usize,
+    work: &mut [u32],
+    flags: &mut [u8],
+    p: Standing,
+    row: u32,
+) -> Standing
+    requires { ⌜ Ready w (length (now work)) (length (now flags)) p ⌝ }
+    ensures { λ q. ⌜ Judged (tableDominates (now (table .entry))) w row (now (work .entry)) p (now (work .exit)) q ⌝ }
+{
+    let verdict = scan(table, work, p.held, row, flags);
+    let clock = p.clock + 1;
+    let count = p.count + verdict.compares;
+    let overflow = p.overflow;
+    if verdict.dropped {
+        return Standing {
+            held: p.held,
+            overflow,
+            clock,
+            count,
+        };
+    }
+    let held = remove(flags, work, p.held, verdict.dominates);
+    if held < w {
+        put_entry(work, held, row, clock);
+        return Standing {
+            held: held + 1,
+            overflow,
+            clock,
+            count,
+        };
+    }
+    put_entry(work, w + overflow, row, clock);
+    Standing {
+        held,
+        overflow: overflow + 1,
+        clock,
+        count,
+    }
+}
+
+fn read_row(
+    table: &[u16],
+    w: usize,
+    work: &mut [u32],
+    marks: &mut [u8],
+    flags: &mut [u8],
+    p: Standing,
+    row: u32,
+    timestamp: u32,
+) -> Standing
+    requires { ⌜ Ready w (length (now work)) (length (now flags)) p ⌝ }
+    ensures { λ q. ⌜ Read (tableDominates (now (table .entry))) w (record { row = row; timestamp = timestamp }) (now (work .entry)) (now (marks .entry)) p (now (work .exit)) (now (marks .exit)) q ⌝ }
+{
+    let held = release(work, p.held, timestamp, marks);
+    let q = Standing {
+        held,
+        overflow: p.overflow,
+        clock: p.clock,
+        count: p.count,
+    };
+    judge(table, w, work, flags, q, row)
+}
+
+// ---- passes
+
+// Reads the n entries that wait.
+fn one_pass(
+    table: &[u16],
+    w: usize,
+    n: usize,
+    work: &mut [u32],
+    marks: &mut [u8],
+    flags: &mut [u8],
+    p: Standing,
+) -> Standing
+    requires { ⌜ PassReady w n (length (now work)) (length (now flags)) p ⌝ }
+    ensures { λ q. ⌜ Passed (tableDominates (now (table .entry))) w n (now (work .entry)) (now (marks .entry)) p (now (work .exit)) (now (marks .exit)) q ⌝ }
+{
+    let mut q = p;
+    let mut i: usize = 0;
+    while i < n {
+        let row = word(work, 2 * (w + i));
+        let timestamp = word(work, 2 * (w + i) + 1);
+        q = read_row(table, w, work, marks, flags, q, row, timestamp);
+        i += 1;
+    }
+    q
+}
+
+// Releases the whole window.
+fn release_all(work: &[u32], held: usize, marks: &mut [u8])
+    requires { ⌜ held ≤ 1024 ⌝ }
+    ensures { λ _. ⌜ now (marks .exit) ≡ marked (entries (now (work .entry)) 0 held) (now (marks .entry)) ⌝ }
+{
+    let mut i: usize = 0;
+    while i < held {
+        mark(marks, word(work, 2 * i) as usize);
+        i += 1;
+    }
+}
+
+// Passes, at most `fuel`, until one sets nothing aside. What a pass set aside stands where the next one reads.
+fn all_passes(
+    table: &[u16],
+    w: usize,
+    n: usize,
+    fuel: usize,
+    work: &mut [u32],
+    marks: &mut [u8],
+    flags: &mut [u8],
+) -> usize
+    requires { ⌜ RunReady w n fuel (length (now work)) (length (now flags)) ⌝ }
+    ensures { λ c. ⌜ Ran (tableDominates (now (table .entry))) w n fuel (now (work .entry)) (now (marks .entry)) (now (marks .exit)) c ⌝ }
+{
+    let mut p = Standing {
+        held: 0,
+        overflow: 0,
+        clock: 0,
+        count: 0,
+    };
+    let mut left = fuel;
+    let mut waiting = n;
+    while 0 < left {
+        let q = one_pass(table, w, waiting, work, marks, flags, p);
+        let held = q.held;
+        let overflow = q.overflow;
+        if overflow == 0 {
+            release_all(work, held, marks);
+            return q.count;
+        }
+        waiting = overflow;
+        p = Standing {
+            held,
+            overflow: 0,
+            clock: q.clock,
+            count: q.count,
+        };
+        left -= 1;
+    }
+    p.count
+}
+
+// ---- the machine on a table
+
+fn clear(marks: &mut [u8])
+    ensures { λ _. ⌜ now (marks .exit) ≡ replicate (length (now (marks .entry))) 0 ⌝ }
+{
+    let mut i: usize = 0;
+    while i < marks.len() {
+        marks[i] = 0;
+        i += 1;
+    }
+}
+
+// The rows below n wait, from entry w on.
+fn fill_rows(work: &mut [u32], w: usize, n: usize)
+    requires { ⌜ (w ≤ 1024) × (n ≤ 1024) × (2 * (w + n) ≤ length (now work)) ⌝ }
+    ensures { λ _. ⌜ entries (now (work .exit)) w n ≡ map unread (allRows n) ⌝ }
+{
+    let mut i: usize = 0;
+    while i < n {
+        put_entry(work, w + i, i as u32, 0);
+        i += 1;
+    }
+}
+
+// The machine on the n rows of a table, in marks as many; the compares made come back.
+pub fn run_table(table: &[u16], n: usize, w: usize, marks: &mut [u8], work: &mut [u32]) -> usize
+    requires { ⌜ (n ≤ 1024) × (w ≤ 1024) × (2 * (w + n) ≤ length (now work)) × (length (now marks) ≡ n) ⌝ }
+    ensures { λ c. ⌜ (c ≡ machine (tableDominates (now (table .entry))) w (allRows n) n .count) × (now (marks .exit) ≡ machine (tableDominates (now (table .entry))) w (allRows n) n .marks) ⌝ }
+{
+    clear(marks);
+    fill_rows(work, w, n);
+    let mut flags = [0u8; 1024];
+    all_passes(table, w, n, n * n + 1, work, marks, &mut flags)
+}
