@@ -3,3 +3,4 @@ pub mod Best
 pub mod Marks
 pub mod Table
 pub mod Numbers
+pub mod Filled

@@ -1,15 +1,15 @@
 // Dominance, best matches and marks (specs/), and what engines know of a list and a log: its checks, and its level table.
 use preference::PreferenceList;
 ghost use mathlib.Core.Path.{_≡_};
-ghost use Prim.Native.Nat.{_+_, _*_, _/_, _<_, _≤_};
+ghost use Prim.Native.Nat.{_+_, _*_, _≤_};
 ghost use mathlib.Core.Bool.{Bool};
-ghost use lib.ListN.{length, set};
+ghost use lib.ListN.{length};
 ghost use lib.Seq.{sets};
 ghost use Rattle.laws.specs.First.{anyBelow};
 ghost use Rattle.runs.specs.Log.{rowAt};
 ghost use Rattle.preference.specs.Parts.{rowNumber};
 ghost use Rattle.pareto.specs.Checked.{rowsNumber, checkedNumber};
-ghost use Rattle.pareto.specs.Table.{tableEntry, tableOf, lower, relation, compared};
+ghost use Rattle.pareto.specs.Table.{tableOf, lower, relation, compared};
 
 // 8 or 0 of one row, handed on as the part of the log that begins at 8 × its number.
 fn row_at_number(list: PreferenceList, log: &[i32], r: usize) -> u8
@@ -57,35 +57,14 @@ pub fn checked_number(list: PreferenceList, log: &[i32], more: u8) -> u8
 
 // ---- the level table
 
-// Place i of the level table: a part of the level vector of a row, which is handed on as a part of the log.
-fn table_entry(list: PreferenceList, log: &[i32], i: usize) -> u16
-    requires { ⌜ 8 * (i / 8) + 8 ≤ length (now log) ⌝ }
-    ensures { λ n. ⌜ n ≡ tableEntry list (now (log .entry)) i ⌝ }
-{
-    let start = i / 8 * 8;
-    let end = start + 8;
-    let n = preference::part_level(list, &log[start..end], i % 8);
-    (n % 65536) as u16
-}
-
-// A store past the end does nothing.
-fn store(table: &mut [u16], at: usize, n: u16)
-    ensures { λ _. ⌜ now (table .exit) ≡ set (now (table .entry)) at n ⌝ }
-{
-    if at < table.len() {
-        table[at] = n;
-    }
-}
-
-// Fills the front of a table with the levels of a log.
+// Fills the front of a table with the levels of a log, part by part.
 pub fn fill_table(list: PreferenceList, log: &[i32], table: &mut [u16])
     ensures { λ _. ⌜ now (table .exit) ≡ sets (now (table .entry)) 0 (tableOf list (now (log .entry))) ⌝ }
 {
-    let n = log.len() / 8 * 8;
-    let mut i: usize = 0;
-    while i < n {
-        store(table, i, table_entry(list, log, i));
-        i += 1;
+    let mut k: usize = 0;
+    while k < 8 {
+        preference::fill_part(list, log, k, table);
+        k += 1;
     }
 }
 

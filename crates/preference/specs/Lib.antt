@@ -2,4 +2,5 @@ pub mod List
 pub mod Valid
 pub mod Level
 pub mod Parts
+pub mod Rule
 pub mod Laws

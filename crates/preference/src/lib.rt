@@ -2,19 +2,22 @@
 use constructor::Constructor;
 use constructor::Layering;
 ghost use mathlib.Core.Path.{_≡_};
-ghost use Prim.Native.Nat.{_<_, _≤_, _-_, min};
+ghost use Prim.Native.Nat.{_+_, _-_, _/_, _<_, _≤_, min};
 ghost use lib.IntN.{pos};
 ghost use lib.ListN.{getD, length};
-ghost use mathlib.Core.Bool.{not};
+ghost use lib.Dec.{eqb};
+ghost use mathlib.Core.Bool.{not, cond};
 ghost use Rattle.constructor.specs.Level.{inside};
 ghost use Rattle.constructor.specs.Valid.{layerNumber};
 ghost use Rattle.laws.specs.Checks.{_gives_, _then_};
-ghost use Rattle.laws.specs.First.{firstNumber, firstAt};
+ghost use Rattle.laws.specs.First.{firstNumber};
 ghost use Rattle.laws.specs.Outcome.{outcome};
+ghost use Rattle.runs.specs.Log.{rowAt};
 ghost use Rattle.preference.specs.List.{preferenceAt, places, names};
 ghost use Rattle.preference.specs.Valid.{taken, columnNumber, preferenceNumber, placeNumber, namedNumber, listNumber};
-ghost use Rattle.preference.specs.Level.{isNamed, layerOf, levelAt, maxAt, valueNumber, levelNumber, outcomeOf};
-ghost use Rattle.preference.specs.Parts.{levels, maxLevels, rowNumber};
+ghost use Rattle.preference.specs.Level.{layerOf, levelAt, maxAt, valueNumber, levelNumber, outcomeOf};
+ghost use Rattle.preference.specs.Parts.{levels, maxLevels, rowNumber, partAt, withPart};
+ghost use Rattle.preference.specs.Rule.{among, NamesOf, ruleOf, Layered, RowsIn};
 
 // A wish: the column that it is about, and its form.
 pub struct Preference {
@@ -42,6 +45,22 @@ pub struct PreferenceList {
 pub enum LevelAnswer {
     Level(u32),
     Refused(u8),
+}
+
+// The named values of one preference, in the list's order.
+struct Names {
+    count: usize,
+    values: [i32; 64],
+    layers: [u8; 64],
+}
+
+// What decides a part of a level vector: the values of a column, by their distance from low..up or by layers.
+struct Rule {
+    column: usize,
+    low: i32,
+    up: i32,
+    step: u32,
+    layering: Layering,
 }
 
 // ---- the check of a list
@@ -202,42 +221,62 @@ fn held_names(list: PreferenceList) -> usize
     if n <= 64 { n as usize } else { 64 }
 }
 
-fn is_named_at(list: PreferenceList, i: usize, v: i32, k: usize) -> bool
-    requires { ⌜ k < 64 ⌝ }
-    ensures { λ r. ⌜ r ≡ isNamed list i v k ⌝ }
+// The place after m where owner is i: a named value of the preference at place i is kept, and any other is written over.
+fn place_after(m: usize, owner: usize, i: usize) -> usize
+    requires { ⌜ m < 64 ⌝ }
+    ensures { λ r. ⌜ r ≡ cond (eqb owner i) (m + 1) m ⌝ }
 {
-    let e = list.named[k];
-    let owner = e.preference;
-    let value = e.value;
-    ((owner as usize) == i) & arith::same(value, v)
+    if owner == i { m + 1 } else { m }
 }
 
-// The place of the first of n named values that is v, of the preference at place i; n where there is none.
-fn name_place(list: PreferenceList, n: usize, i: usize, v: i32) -> usize
-    requires { ⌜ n ≤ 64 ⌝ }
-    ensures { λ r. ⌜ r ≡ firstAt (isNamed list i v) n ⌝ }
+// The named values of the preference at place i, so that whoever asks for many layers reads the list once.
+fn names_of(list: PreferenceList, i: usize) -> Names
+    ensures { λ r. ⌜ NamesOf list i r ⌝ }
 {
-    let mut found = n;
+    let n = held_names(list);
+    let mut values = [0i32; 64];
+    let mut layers = [0u8; 64];
+    let mut m: usize = 0;
     let mut k: usize = 0;
-    while (k < n) & (n <= found) {
-        if is_named_at(list, i, v, k) {
-            found = k;
+    while k < n {
+        let e = list.named[k];
+        let owner = e.preference;
+        let value = e.value;
+        values[m] = value;
+        layers[m] = e.layer;
+        m = place_after(m, wide(owner), i);
+        k += 1;
+    }
+    Names {
+        count: m,
+        values: values,
+        layers: layers,
+    }
+}
+
+// The layer of the first of n values that is v, or that of other values.
+fn layer_among(values: &[i32], layers: &[u8], n: usize, v: i32, others: u8) -> u8
+    requires { ⌜ (n ≤ length (now values)) × (n ≤ length (now layers)) ⌝ }
+    ensures { λ r. ⌜ r ≡ among (now (values .entry)) (now (layers .entry)) n v others ⌝ }
+{
+    let mut k: usize = 0;
+    while k < n {
+        let value = values[k];
+        if arith::same(value, v) {
+            return layers[k];
         }
         k += 1;
     }
-    found
+    others
 }
 
 fn layer_of(list: PreferenceList, i: usize, v: i32, others: u8) -> u8
     ensures { λ r. ⌜ r ≡ layerOf list i v others ⌝ }
 {
-    let n = held_names(list);
-    let k = name_place(list, n, i, v);
-    if k < n {
-        let e = list.named[k];
-        return e.layer;
-    }
-    others
+    let names = names_of(list, i);
+    let values = names.values;
+    let layers = names.layers;
+    layer_among(&values, &layers, names.count, v, others)
 }
 
 // The form at place i; LOWEST with every figure 0 past the eighth.
@@ -332,7 +371,7 @@ pub fn parts(list: PreferenceList) -> usize
     held_places(list)
 }
 
-// Part k of the level vector of a run; 0 past the last. Engines ask for every part of every run: only a named value needs the whole list.
+// Part k of the level vector of a run; 0 past the last.
 pub fn part_level(list: PreferenceList, row: &[i32], k: usize) -> u64
     ensures { λ r. ⌜ r ≡ getD (levels list (now (row .entry))) k 0 ⌝ }
 {
@@ -340,13 +379,7 @@ pub fn part_level(list: PreferenceList, row: &[i32], k: usize) -> u64
         return 0;
     }
     let p = list.preferences[k];
-    let v = run_value(p, row);
-    let c = p.constructor;
-    let y = constructor::layering_of(c);
-    match y {
-        Layering::Numeric => constructor::level_of(c, v),
-        Layering::Layers { top: _, others } => layer_of(list, k, v, others) as u64,
-    }
+    level_at(list, k, run_value(p, row))
 }
 
 // The greatest level of part k; 0 past the last.
@@ -383,4 +416,111 @@ pub fn row_number(list: PreferenceList, row: &[i32]) -> u8
         i += 1;
     }
     0
+}
+
+// ---- a part of the level vectors of a log
+
+// What decides part k of a level vector. Past the last part the step is 0, and so is every level.
+fn rule_of(list: PreferenceList, k: usize) -> Rule
+    ensures { λ r. ⌜ r ≡ ruleOf list k ⌝ }
+{
+    if held_places(list) <= k {
+        return Rule {
+            column: 0,
+            low: 0,
+            up: 0,
+            step: 0,
+            layering: Layering::Numeric,
+        };
+    }
+    let p = list.preferences[k];
+    let column = p.column;
+    let c = p.constructor;
+    let t = constructor::target_of(c);
+    let low = t.low;
+    let up = t.up;
+    let s = constructor::scale_of(c);
+    let y = constructor::layering_of(c);
+    Rule {
+        column: wide(column),
+        low: low,
+        up: up,
+        step: s.step,
+        layering: y,
+    }
+}
+
+// The rows of a log of which part k has a place in a table.
+fn rows_in(log: usize, table: usize, k: usize) -> usize
+    ensures { λ r. ⌜ RowsIn (log / 8) table k r ⌝ }
+{
+    if table <= k {
+        return 0;
+    }
+    let held = (table - k - 1) / 8 + 1;
+    let rows = log / 8;
+    if rows <= held { rows } else { held }
+}
+
+// The value at a column of row r, which is handed on as the part of the log that begins at 8 × its number.
+fn value_at(log: &[i32], r: usize, column: usize) -> i32
+    requires { ⌜ r < length (now log) / 8 ⌝ }
+    ensures { λ v. ⌜ v ≡ getD (rowAt (now (log .entry)) r) column (pos 0) ⌝ }
+{
+    let start = 8 * r;
+    let end = start + 8;
+    value_in(&log[start..end], column)
+}
+
+// Part k of a form that goes by distance: for each row a value, two differences, a division and a store.
+fn fill_distances(list: PreferenceList, log: &[i32], k: usize, table: &mut [u16])
+    requires { ⌜ ruleOf list k .layering ≡ Layering.Numeric ⌝ }
+    ensures { λ _. ⌜ now (table .exit) ≡ withPart (partAt list (now (log .entry)) k) k (length (now (log .entry)) / 8) (now (table .entry)) ⌝ }
+{
+    let rule = rule_of(list, k);
+    let column = rule.column;
+    let low = rule.low;
+    let up = rule.up;
+    let step = rule.step;
+    let n = rows_in(log.len(), table.len(), k);
+    let mut r: usize = 0;
+    while r < n {
+        let v = value_at(log, r, column);
+        let level = constructor::level_outside(low, up, step, v);
+        table[8 * r + k] = (level % 65536) as u16;
+        r += 1;
+    }
+}
+
+// Part k of a form with layers.
+fn fill_layers(list: PreferenceList, log: &[i32], k: usize, others: u8, table: &mut [u16])
+    requires { ⌜ Layered list k others ⌝ }
+    ensures { λ _. ⌜ now (table .exit) ≡ withPart (partAt list (now (log .entry)) k) k (length (now (log .entry)) / 8) (now (table .entry)) ⌝ }
+{
+    let rule = rule_of(list, k);
+    let column = rule.column;
+    let names = names_of(list, k);
+    let values = names.values;
+    let layers = names.layers;
+    let count = names.count;
+    let n = rows_in(log.len(), table.len(), k);
+    let mut r: usize = 0;
+    while r < n {
+        let v = value_at(log, r, column);
+        let layer = layer_among(&values, &layers, count, v, others);
+        table[8 * r + k] = layer as u16;
+        r += 1;
+    }
+}
+
+// Sets part k of the rows of a table, eight places to a row, to part k of the level vectors of a log, in 16 bits.
+pub fn fill_part(list: PreferenceList, log: &[i32], k: usize, table: &mut [u16])
+    ensures { λ _. ⌜ now (table .exit) ≡ withPart (partAt list (now (log .entry)) k) k (length (now (log .entry)) / 8) (now (table .entry)) ⌝ }
+{
+    let rule = rule_of(list, k);
+    let y = rule.layering;
+    match y {
+        Layering::Numeric => fill_distances(list, log, k, table),
+        Layering::Layers { top: _, others } => fill_layers(list, log, k, others, table),
+    }
 }
