@@ -2,7 +2,6 @@
 use constructor::Constructor;
 use constructor::Layering;
 use format::Class;
-use format::Kind;
 use format::ReadAnswer;
 use preference::Named;
 use preference::Preference;
@@ -14,7 +13,7 @@ ghost use lib.ListN.{length, getD};
 ghost use lib.Seq.{sets};
 ghost use Rattle.word.specs.Word.{intAt};
 ghost use Rattle.constructor.specs.Level.{layeringOf};
-ghost use Rattle.format.specs.Kinds.{kind, kindOf, classOf, bodyOf};
+ghost use Rattle.format.specs.Kinds.{classOf, bodyOf};
 ghost use Rattle.format.specs.Read.{constructorOf, preferenceOf, namedOf, intsAt, lastConstructor, isLayers, endsLayered, outOfPlace, namingNumber, figuresNumber, isUnknown, recordNumber, zeroList, addPreference, addNamed, listAfter, rowsAfter, withRecord, refusedAt, takeRecord, goes, step, records, finish, readOf, valuesUnder, valuesOf, logAfter};
 ghost use Rattle.format.specs.Laws.Columns.{Columns};
 ghost use Rattle.format.specs.Laws.Read.{Midway, toRead};
@@ -22,42 +21,33 @@ ghost use Rattle.format.specs.declared.Class.the-variants.{PreferenceRecord, Na
 
 // ---- the kinds
 
-fn of_class(class: Class, body: usize) -> Kind
-    ensures { λ r. ⌜ r ≡ kind class body ⌝ }
-{
-    Kind { class, body }
-}
-
-// By the kind byte; any other than 01 to 07 is unknown.
-fn kind_of(k: u8) -> Kind
-    ensures { λ r. ⌜ r ≡ kindOf k ⌝ }
-{
-    match k {
-        1 => of_class(Class::PreferenceRecord, 13),
-        2 => of_class(Class::PreferenceRecord, 13),
-        3 => of_class(Class::PreferenceRecord, 17),
-        4 => of_class(Class::PreferenceRecord, 21),
-        5 => of_class(Class::PreferenceRecord, 3),
-        6 => of_class(Class::NamedRecord, 5),
-        7 => of_class(Class::RunRecord, 32),
-        _ => of_class(Class::Unknown, 0),
-    }
-}
-
-// The class of the record that t begins with.
+// What the record that t begins with says, by its kind byte.
 fn class_of(t: &[u8]) -> Class
     ensures { λ r. ⌜ r ≡ classOf (now (t .entry)) ⌝ }
 {
-    let kind = kind_of(word::get_u8(t, 0));
-    kind.class
+    let k = word::get_u8(t, 0);
+    match k {
+        1 | 2 | 3 | 4 | 5 => Class::PreferenceRecord,
+        6 => Class::NamedRecord,
+        7 => Class::RunRecord,
+        _ => Class::Unknown,
+    }
 }
 
 // The bytes of its body, at most 32.
 fn body_of(t: &[u8]) -> usize
     ensures { λ r. ⌜ (r ≡ bodyOf (now (t .entry))) × (r ≤ 32) ⌝ }
 {
-    let kind = kind_of(word::get_u8(t, 0));
-    kind.body
+    let k = word::get_u8(t, 0);
+    match k {
+        1 | 2 => 13,
+        3 => 17,
+        4 => 21,
+        5 => 3,
+        6 => 5,
+        7 => 32,
+        _ => 0,
+    }
 }
 
 // ---- the figures of the record that t begins with
@@ -360,10 +350,13 @@ fn run_stands(s: &[u8], at: usize, rows: usize) -> bool
     ensures { λ r. ⌜ (r ≡ true → (getD (now (s .entry)) at 0 ≡ 7) × (at + 33 ≤ length (now (s .entry))) × (rows < 1024)) ⌝ }
 {
     let n = s.len();
-    if n <= at {
+    if n < 33 {
         return false;
     }
-    (33 <= n - at) & (s[at] == 7) & (rows < 1024)
+    if n - 33 < at {
+        return false;
+    }
+    (s[at] == 7) & (rows < 1024)
 }
 
 // Runs change the place and the rows alone: the list is not carried over each of those that stand here.
@@ -469,8 +462,8 @@ fn put_runs(s: &[u8], log: &mut [i32])
     let mut to: usize = 0;
     while at < n {
         let t = &s[at..];
-        to = put_record(t, log, to);
         at += 1 + body_of(t);
+        to = put_record(t, log, to);
     }
 }
 

@@ -38,12 +38,6 @@ part-t-start c = omega arith
 part-t-end : tie.Need-part-t-end Inv-loop μ-loop
 part-t-end c = omega arith
 
-put-record-requires : tie.Need-put-record-requires Inv-loop μ-loop
-put-record-requires c κs =
-    let s = now (c .before .before .before .before .before .args .s) in
-    let n = here (c .before .before) in
-    rw (part s (c .before .before .before .loop .at)) (n .body-here, n .room-here)
-
 body-of-requires : tie.Need-body-of-requires Inv-loop μ-loop
 body-of-requires c κs = search needs
 
@@ -53,18 +47,25 @@ add-at c = omega (arith, c .body-of .ensures .1)
 add-at-2 : tie.Need-add-at-2 Inv-loop μ-loop
 add-at-2 c = omega (arith, c .body-of .ensures .1)
 
+put-record-requires : tie.Need-put-record-requires Inv-loop μ-loop
+put-record-requires c κs =
+    let s = now (c .before .before .before .before .before .before .args .s) in
+    let n = here (c .before .before .before) in
+    rw (part s (c .before .before .before .before .loop .at)) (n .body-here, n .room-here)
+
 loop-less : tie.Need-loop-less Inv-loop μ-loop
-loop-less c = omega (arith, c .body-of .ensures .1)
+loop-less c = omega (arith, c .before .before .before .body-of .ensures .1)
 
 loop-again : tie.Need-loop-again Inv-loop μ-loop
 loop-again c =
     let s = now (c .before .before .before .before .before .before .before .before .args .s) in
     let l = c .before .before .before .before .before .before .loop in
-    let p = c .before .before .put-record in
+    let p = c .before .put-record in
+    let body = c .before .before .before .body-of in
     let e = part s (l .at) in
     let to : p .result ≡ l .to + length (valuesAt s (l .at)) = p .ensures .0 ∙ ap (λ (t : List ℕ). l .to + length (valuesUnder (classOf t) t)) e in
     let log : p .last .1 .0 ≡ sets (l .log) (l .to) (valuesAt s (l .at)) = p .ensures .1 ∙ ap (λ (t : List ℕ). sets (l .log) (l .to) (valuesUnder (classOf t) t)) e in
-    let b : c .body-of .result ≡ bodyOf (drop (l .at) s) = c .body-of .ensures .0 ∙ ap bodyOf e in
+    let b : body .result ≡ bodyOf (drop (l .at) s) = body .ensures .0 ∙ ap bodyOf e in
     (refl, rw (log, to, b) (here (c .before .before .before .before .before) .stored))
 
 same-length : tie.Need-same-length Inv-loop μ-loop
@@ -86,10 +87,10 @@ put-runs-spec =
     sub-t
     part-t-start
     part-t-end
-    put-record-requires
     body-of-requires
     add-at
     add-at-2
+    put-record-requires
     loop-less
     loop-again
     same-length
