@@ -2,5 +2,9 @@ pub mod Some
 pub mod Numbers
 pub mod Edges
 pub mod Steps
+pub mod Alike
+pub mod Stretch
+pub mod Rows
+pub mod RowWalk
 pub mod Walk
 pub mod Bound

@@ -1,9 +1,10 @@
 // The walk of the lattice engine (000, 6.1), on weights and node numbers: it marks the nodes that rows hold, walks upward over the edges
 // that leave reached nodes, and reads each row's mark from its node.
 ghost use mathlib.Core.Path.{_≡_};
-ghost use Prim.Native.Nat.{_<_, _≤_};
+ghost use Prim.Native.Nat.{_+_, _-_, _≤_};
+ghost use mathlib.Core.List.{map};
 ghost use lib.ListN.{length, replicate, getD, set};
-ghost use Rattle.nodes.specs.Steps.{Weights, edgesBy, updated, heldByte, enteredByte, trail, byteMark, markedBy};
+ghost use Rattle.nodes.specs.Steps.{Weights, rowLength, stretch, rowBy, firstReached, rowEdges, RowAt, updated, heldByte, enteredByte, trail, byteMark, markedBy};
 ghost use Rattle.walk.specs.Progress.{Crosses, Settles};
 
 // What crossing edges came to: whether the budget was enough, and the crossings made.
@@ -53,13 +54,49 @@ fn enter(b: u8) -> u8
     b
 }
 
-// Crosses the edges that leave node x, as far as the budget goes: for each part whose level there is below its greatest, the edge to the
-// node that its weight is added to.
-fn cross(weights: &[usize], nodes: &mut [u8], x: usize, made: u32, budget: u32) -> Progress
-    requires { ⌜ Weights (now weights) (length (now nodes)) ⌝ }
-    requires { ⌜ x < length (now nodes) ⌝ }
+// Each node's byte once an edge to it is crossed.
+fn enter_all(nodes: &mut [u8])
+    ensures { λ _. ⌜ now (nodes .exit) ≡ map enteredByte (now (nodes .entry)) ⌝ }
+{
+    let mut i = 0;
+    while i < nodes.len() {
+        nodes[i] = enter(nodes[i]);
+        i += 1;
+    }
+}
+
+// Crosses d edges, to the nodes that stand side by side from `from` on, if the budget is enough for all of them.
+fn cross_stretch(nodes: &mut [u8], from: usize, d: usize, made: u32, budget: u32) -> Progress
+    requires { ⌜ from + d ≤ length (now nodes) ⌝ }
     requires { ⌜ made ≤ budget ⌝ }
-    ensures { λ r. ⌜ Crosses (edgesBy (length (now (nodes .entry))) (now (weights .entry)) x x) made budget (now (nodes .entry)) (now (nodes .exit)) (r .ok) (r .made) ⌝ }
+    ensures { λ r. ⌜ Crosses (stretch from d) made budget (now (nodes .entry)) (now (nodes .exit)) (r .ok) (r .made) ⌝ }
+{
+    let left = (budget - made) as usize;
+    if left < d {
+        return Progress { ok: false, made };
+    }
+    let to = from + d;
+    enter_all(&mut nodes[from..to]);
+    Progress {
+        ok: true,
+        made: made + (d as u32),
+    }
+}
+
+// Crosses the edges that leave d nodes of the row at x, from `from` on, for the parts with these weights: for each whose level there is below
+// its greatest, the edges to the nodes that its weight is added to.
+fn cross_parts(
+    weights: &[usize],
+    nodes: &mut [u8],
+    x: usize,
+    from: usize,
+    d: usize,
+    made: u32,
+    budget: u32,
+) -> Progress
+    requires { ⌜ RowAt (length (now nodes)) (now weights) x (from + d) ⌝ }
+    requires { ⌜ made ≤ budget ⌝ }
+    ensures { λ r. ⌜ Crosses (rowBy (length (now (nodes .entry))) (now (weights .entry)) from x d) made budget (now (nodes .entry)) (now (nodes .exit)) (r .ok) (r .made) ⌝ }
 {
     let mut i = 0;
     let mut span = nodes.len();
@@ -68,12 +105,11 @@ fn cross(weights: &[usize], nodes: &mut [u8], x: usize, made: u32, budget: u32) 
     while i < weights.len() {
         let w = weights[i];
         if rest + w < span {
-            if n == budget {
-                return Progress { ok: false, made: n };
+            let p = cross_stretch(nodes, from + w, d, n, budget);
+            if !p.ok {
+                return p;
             }
-            let t = x + w;
-            nodes[t] = enter(nodes[t]);
-            n += 1;
+            n = p.made;
         }
         rest = rest % w;
         span = w;
@@ -82,22 +118,79 @@ fn cross(weights: &[usize], nodes: &mut [u8], x: usize, made: u32, budget: u32) 
     Progress { ok: true, made: n }
 }
 
-// Walks all nodes in the order of their numbers, and crosses the edges that leave each reached one.
+// The place of the first reached node; their number where there is none.
+fn first_reached(nodes: &[u8]) -> usize
+    ensures { λ f. ⌜ f ≡ firstReached (now (nodes .entry)) ⌝ }
+{
+    let mut f = 0;
+    while f < nodes.len() {
+        if nodes[f] != 0 {
+            return f;
+        }
+        f += 1;
+    }
+    f
+}
+
+// Crosses the edges that leave the reached nodes of the row of l nodes at x: the first one and all after it, since each is entered from the
+// one before.
+fn cross_row(
+    weights: &[usize],
+    nodes: &mut [u8],
+    x: usize,
+    l: usize,
+    made: u32,
+    budget: u32,
+) -> Progress
+    requires { ⌜ RowAt (length (now nodes)) (now weights) x (x + l) ⌝ }
+    requires { ⌜ made ≤ budget ⌝ }
+    ensures { λ r. ⌜ Crosses (rowEdges (now (weights .entry)) x l (now (nodes .entry))) made budget (now (nodes .entry)) (now (nodes .exit)) (r .ok) (r .made) ⌝ }
+{
+    let end = x + l;
+    let f = first_reached(&nodes[x..end]);
+    if f == l {
+        return Progress { ok: true, made };
+    }
+    let from = x + f;
+    let d = l - f;
+    let p = cross_parts(weights, nodes, x, from, d, made, budget);
+    if !p.ok {
+        return p;
+    }
+    cross_stretch(nodes, from + 1, d - 1, p.made, budget)
+}
+
+// The number of parts but the last.
+fn all_but_one(parts: usize) -> usize
+    ensures { λ k. ⌜ k ≡ parts - 1 ⌝ }
+{
+    if 0 < parts { parts - 1 } else { 0 }
+}
+
+// How many nodes stand in a row, by the weights of all parts but the last.
+fn row_length(weights: &[usize], count: usize) -> usize
+    ensures { λ l. ⌜ l ≡ rowLength count (now (weights .entry)) ⌝ }
+{
+    let k = weights.len();
+    if 0 < k { weights[k - 1] } else { count }
+}
+
+// Walks all rows of nodes in the order of their numbers.
 fn walk(weights: &[usize], nodes: &mut [u8], budget: u32) -> Progress
     requires { ⌜ Weights (now weights) (length (now nodes)) ⌝ }
     ensures { λ r. ⌜ Crosses (trail (now (weights .entry)) (now (nodes .entry)) (length (now (nodes .entry)))) 0 budget (now (nodes .entry)) (now (nodes .exit)) (r .ok) (r .made) ⌝ }
 {
+    let k = all_but_one(weights.len());
+    let l = row_length(&weights[..k], nodes.len());
     let mut x = 0;
     let mut made: u32 = 0;
     while x < nodes.len() {
-        if nodes[x] != 0 {
-            let p = cross(weights, nodes, x, made, budget);
-            if !p.ok {
-                return p;
-            }
-            made = p.made;
+        let p = cross_row(&weights[..k], nodes, x, l, made, budget);
+        if !p.ok {
+            return p;
         }
-        x += 1;
+        made = p.made;
+        x += l;
     }
     Progress { ok: true, made }
 }

@@ -27,7 +27,7 @@ weights-length [] = refl
 weights-length (m ∷ ms) = ap suc (weights-length ms)
 
 -- a part's level is below its greatest where the step by its weight stays in its block
-open-test : (m w r : ℕ) → zero < w → ltb (r + w) ((m + 1) * w) ≡ ltb (r / w) m
+pub open-test : (m w r : ℕ) → zero < w → ltb (r + w) ((m + 1) * w) ≡ ltb (r / w) m
 open-test m w r p =
     both-ways (ltb (r + w) ((m + 1) * w)) (ltb (r / w) m)
     (λ t.

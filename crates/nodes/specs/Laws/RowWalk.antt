@@ -1,0 +1,183 @@
+-- The walk over a row of nodes: nothing up to the first reached node, and then the edges of each node, since each is entered from the one
+-- before. The row's edges part by part are the same.
+use mathlib.Core.Path.{_≡_, refl, sym, ap, _∙_}
+use mathlib.Core.Logic.{⊎-elim}
+use mathlib.Core.Bool.{Bool, true, false, cond}
+use mathlib.Core.List.{List, [], _∷_, _++_, append-nil}
+use Prim.Native.Nat.{ℕ, zero, suc, _+_, _-_, _%_, _<_, _≤_}
+use native.Mathlib.Nat.{add-suc, add-zero, le-step, lt-suc-self, not-suc-le-zero, le-of-suc-le-suc, eq-or-lt-of-le}
+use native.Mathlib.Omega.{arith}
+use lib.Dec.{ltb, eqb}
+use lib.ListN.{length, getD, take, drop, length-drop}
+use lib.Seq.{getD-take, getD-drop, length-take-le}
+use borrow.Author.Tests.{le-ltb, lt-ltb, ltb-false, eq-eqb, ne-eqb, eqb-true, eqb-false}
+use Rattle.laws.specs.Laws.Bools.{or-right}
+use Rattle.nodes.specs.Lattice.{nodeCount}
+use Rattle.nodes.specs.Steps.{weightsOf, Weights, edgesBy, front, rowLength, stretch, rowBy, rowFrom, rowEdges, firstReached, updated, enteredByte, trail}
+use Rattle.nodes.specs.Laws.Some.{among, among-append, among-one}
+use Rattle.nodes.specs.Laws.Steps.{length-updated, getD-updated, entered-once}
+use Rattle.nodes.specs.Laws.Alike.{Alike, alike-equal, alike-more}
+use Rattle.nodes.specs.Laws.Stretch.{stretch-more}
+use Rattle.nodes.specs.Laws.Rows.{rowSize, row-some, row-fits, row-ends, size-is, edges-in-row, row-none, row-more}
+
+entered-some : (b : ℕ) → enteredByte b ≡ 0 → ⊥
+unfolding enteredByte
+entered-some b = go (ltb b 2) refl
+  where
+    go : (t : Bool) → ltb b 2 ≡ t → cond t (b + 2) b ≡ 0 → ⊥
+    go true e z = omega arith
+    go false e z = let h = ltb-false b 2 e in omega arith
+
+among-last : (y : ℕ) (s t : List ℕ) (p : ℕ) → p ≡ y → among y (s ++ (t ++ (p ∷ []))) ≡ true
+among-last y s t p e =
+    among-append y s (t ++ (p ∷ []))
+    ∙ or-right (among y s) (among y (t ++ (p ∷ []))) (among-append y t (p ∷ []) ∙ or-right (among y t) (among y (p ∷ [])) (among-one y p ∙ eq-eqb p y e))
+
+-- a node that an edge leads to is reached
+entered-there : (ts b : List ℕ) (y : ℕ) → y < length b → among y ts ≡ true → getD (updated enteredByte ts b) y 0 ≡ 0 → ⊥
+entered-there ts b y h t e = entered-some (getD b y 0) (sym (getD-updated enteredByte entered-once ts b y h ∙ rw t) ∙ e)
+
+module _ (tops b : List ℕ) (size : length b ≡ nodeCount tops) where
+  abbrev steps : ℕ → List ℕ
+  steps x = trail (weightsOf tops) b x
+
+  abbrev bytes : ℕ → List ℕ
+  bytes x = updated enteredByte (steps x) b
+
+  -- over nodes that are not reached
+  still : (x f : ℕ) → ((i : ℕ) → i < f → getD (bytes x) (x + i) 0 ≡ 0) → steps (x + f) ≡ steps x
+  unfolding trail
+  still x zero h = rw (add-zero x)
+  still x (suc f) h = rw (add-suc x f, still x f (λ i k. h i (le-step k)), h f (lt-suc-self f)) (append-nil (steps x))
+
+  module _ (x f : ℕ) (inside : x < nodeCount tops) (first : x % rowSize tops ≡ 0) (low : f < rowSize tops)
+      (zeros : (i : ℕ) → i < f → getD (bytes x) (x + i) 0 ≡ 0) (found : getD (bytes x) (x + f) 0 ≡ 0 → ⊥)
+    where
+      -- at place f + d of the row, whose node is reached
+      record Reached (d : ℕ) : Type 0 where
+        crossed : Alike (steps (x + (f + d))) (steps x ++ (rowBy (length b) (front (weightsOf tops)) (x + f) x d ++ stretch (x + f + 1) d))
+        there : getD (bytes (x + (f + d))) (x + (f + d)) 0 ≡ 0 → ⊥
+
+      -- the edges of that node
+      on : (d : ℕ) → f + d < rowSize tops → (getD (bytes (x + (f + d))) (x + (f + d)) 0 ≡ 0 → ⊥)
+          → steps (suc (x + (f + d)))
+          ≡ steps (x + (f + d)) ++ (edgesBy (length b) (front (weightsOf tops)) (x + f + d) x ++ cond (ltb (f + d + 1) (rowSize tops)) ((x + f + 1 + d) ∷ []) [])
+      unfolding trail
+      on d k t =
+          rw (ne-eqb _ _ t, size)
+          (ap (λ (l : List ℕ). steps (x + (f + d)) ++ l)
+          (edges-in-row tops (x + (f + d)) x (f + d) inside first k
+          ∙ (let next : x + (f + d) + 1 ≡ x + f + 1 + d = omega arith in let here : x + (f + d) ≡ x + f + d = omega arith in rw (next, here))))
+
+      begin : Reached 0
+      unfolding stretch
+      begin =
+          record {
+            crossed = alike-equal _ _ (rw (add-zero f, still x f zeros, row-none (length b) (front (weightsOf tops)) (x + f) x) (sym (append-nil (steps x))));
+            there = rw (add-zero f, still x f zeros) found;
+          }
+
+      further : (d : ℕ) → f + d + 1 < rowSize tops → Reached d → Reached (suc d)
+      further d k r =
+          record {
+            crossed =
+                rw (up, path, stretch-more (x + f + 1) d)
+                (alike-more (steps (x + (f + d))) (steps x) (rowBy (length b) (front (weightsOf tops)) (x + f) x d) (stretch (x + f + 1) d) _ _ _ (r .crossed)
+                (row-more (length b) (front (weightsOf tops)) (x + f) x d));
+            there = entered-there (steps (x + (f + suc d))) b (x + (f + suc d)) (rw size (row-fits tops x (f + suc d) inside first (omega (arith, k, add-suc f d)))) last;
+          }
+        where
+          up : x + (f + suc d) ≡ suc (x + (f + d))
+          up = rw (add-suc f d, add-suc x (f + d))
+
+          path : steps (suc (x + (f + d))) ≡ steps (x + (f + d)) ++ (edgesBy (length b) (front (weightsOf tops)) (x + f + d) x ++ ((x + f + 1 + d) ∷ []))
+          path = on d (omega arith) (r .there) ∙ rw (lt-ltb (f + d + 1) (rowSize tops) k)
+
+          last : among (x + (f + suc d)) (steps (x + (f + suc d))) ≡ true
+          last =
+              let e : x + f + 1 + d ≡ x + (f + suc d) = omega (arith, add-suc f d) in
+              ap (λ (n : ℕ). among (x + (f + suc d)) (steps n)) up
+              ∙ rw path (among-last (x + (f + suc d)) (steps (x + (f + d))) (edgesBy (length b) (front (weightsOf tops)) (x + f + d) x) (x + f + 1 + d) e)
+
+      going : (d : ℕ) → f + d < rowSize tops → Reached d
+      going zero h = begin
+      going (suc d) h = let k : f + d + 1 < rowSize tops = omega (arith, h, add-suc f d) in further d k (going d (omega arith))
+
+      -- the whole row, whose last place is f + d
+      whole : (d : ℕ) → f + d + 1 ≡ rowSize tops → Alike (steps (x + rowSize tops)) (steps x ++ rowFrom (length b) (front (weightsOf tops)) x (rowSize tops) f)
+      whole d e =
+          let r = going d (omega arith) in
+          let end : x + rowSize tops ≡ suc (x + (f + d)) = omega arith in
+          let long : rowSize tops - f ≡ suc d = omega arith in
+          let less : suc d - 1 ≡ d = omega arith in
+          rw (end, long, less, on d (omega arith) (r .there), le-ltb (f + d + 1) (rowSize tops) (omega arith), ← append-nil (stretch (x + f + 1) d))
+          (alike-more (steps (x + (f + d))) (steps x) (rowBy (length b) (front (weightsOf tops)) (x + f) x d) (stretch (x + f + 1) d) _ [] _ (r .crossed)
+          (row-more (length b) (front (weightsOf tops)) (x + f) x d))
+
+-- ---- the first reached node
+
+pub first-low : (l : List ℕ) → firstReached l ≤ length l
+unfolding firstReached
+first-low [] = omega arith
+first-low (b ∷ l) = go (eqb b 0) (first-low l)
+  where
+    go : (t : Bool) → firstReached l ≤ length l → cond t (suc (firstReached l)) 0 ≤ length (b ∷ l)
+    go true h = omega arith
+    go false h = omega arith
+
+first-zero : (l : List ℕ) (i : ℕ) → i < firstReached l → getD l i 0 ≡ 0
+unfolding firstReached
+first-zero [] i h = refl
+first-zero (b ∷ l) i h = go (eqb b 0) refl (first-zero l) i h
+  where
+    go : (t : Bool) → eqb b 0 ≡ t → ((k : ℕ) → k < firstReached l → getD l k 0 ≡ 0) → (k : ℕ) → k < cond t (suc (firstReached l)) 0 → getD (b ∷ l) k 0 ≡ 0
+    go true e more zero k = eqb-true b 0 e
+    go true e more (suc n) k = more n (le-of-suc-le-suc k)
+    go false e more n k = absurd (not-suc-le-zero k)
+
+first-found : (l : List ℕ) → firstReached l < length l → getD l (firstReached l) 0 ≡ 0 → ⊥
+unfolding firstReached
+first-found [] h e = not-suc-le-zero h
+first-found (b ∷ l) h z = go (eqb b 0) refl (first-found l) h z
+  where
+    go : (t : Bool) → eqb b 0 ≡ t → (firstReached l < length l → getD l (firstReached l) 0 ≡ 0 → ⊥) → cond t (suc (firstReached l)) 0 < length (b ∷ l)
+        → getD (b ∷ l) (cond t (suc (firstReached l)) 0) 0 ≡ 0 → ⊥
+    go true e more k z = more (le-of-suc-le-suc k) z
+    go false e more k z = eqb-false b 0 e z
+
+module _ (tops b : List ℕ) (size : length b ≡ nodeCount tops) (x : ℕ) (inside : x < nodeCount tops) (first : x % rowSize tops ≡ 0) where
+  abbrev row : List ℕ
+  row = take (rowSize tops) (drop x (bytes tops b size x))
+
+  row-size : length row ≡ rowSize tops
+  row-size =
+      let all = row-ends tops x (rowSize tops - 1) inside first (omega (arith, row-some tops)) .0 in
+      let size′ = length-updated enteredByte (steps tops b size x) b in
+      length-take-le (rowSize tops) (drop x (bytes tops b size x)) (omega (arith, all, size, size′, length-drop x (bytes tops b size x)))
+
+  row-byte : (i : ℕ) → i < rowSize tops → getD row i 0 ≡ getD (bytes tops b size x) (x + i) 0
+  row-byte i k = getD-take (rowSize tops) (drop x (bytes tops b size x)) i 0 k ∙ getD-drop x (bytes tops b size x) i 0
+
+  -- by the place of the first reached node
+  by-first : (f : ℕ) → f ≤ rowSize tops → ((i : ℕ) → i < f → getD row i 0 ≡ 0) → (f < rowSize tops → getD row f 0 ≡ 0 → ⊥)
+      → Alike (steps tops b size (x + rowSize tops)) (steps tops b size x ++ rowFrom (length b) (front (weightsOf tops)) x (rowSize tops) f)
+  unfolding stretch
+  by-first f k zero′ found =
+      let zeros : (i : ℕ) → i < f → getD (bytes tops b size x) (x + i) 0 ≡ 0 = λ i l. sym (row-byte i (omega arith)) ∙ zero′ i l in
+      ⊎-elim
+      (λ e.
+      let none : rowSize tops - f ≡ 0 = omega arith in
+      alike-equal _ _ (rw (none, row-none (length b) (front (weightsOf tops)) (x + f) x) (rw e at (still tops b size x f zeros) ∙ sym (append-nil (steps tops b size x)))))
+      (λ l. whole tops b size x f inside first l zeros (λ e. found l (row-byte f l ∙ e)) (rowSize tops - f - 1) (omega arith))
+      (eq-or-lt-of-le k)
+
+  row-crossed : Alike (steps tops b size (x + rowSize tops)) (steps tops b size x ++ rowEdges (front (weightsOf tops)) x (rowSize tops) (bytes tops b size x))
+  row-crossed =
+      rw (length-updated enteredByte (steps tops b size x) b)
+      (by-first (firstReached row) (rw row-size at (first-low row)) (first-zero row) (λ l. first-found row (rw row-size l)))
+
+-- the walk over a row crosses the row's edges
+pub row-walked : (ws b : List ℕ) (x : ℕ) → Weights ws (length b) → x < length b → x % rowLength (length b) (front ws) ≡ 0
+    → Alike (trail ws b (x + rowLength (length b) (front ws))) (trail ws b x ++ rowEdges (front ws) x (rowLength (length b) (front ws)) (updated enteredByte (trail ws b x) b))
+row-walked ws b x g h z =
+    rw (size-is ws (length b) g, g .weights-are) (row-crossed (g .tops) b (g .count-is) x (rw (g .count-is) at h) (rw (size-is ws (length b) g) at z))

@@ -1,0 +1,163 @@
+use mathlib.Core.Path.{_≡_, refl, sym, _∙_}
+use mathlib.Core.Logic.{⊎-elim}
+use mathlib.Core.Bool.{Bool, true, false}
+use mathlib.Core.List.{List, []}
+use Prim.Native.Nat.{ℕ, _+_, _-_, _<_, _≤_, _%_}
+use native.Mathlib.Nat.{add-zero, le-refl, le-trans, mod-le}
+use native.Mathlib.Numerals.{add-one}
+use native.Mathlib.Omega.{arith}
+use borrow.Author.Needs.{needs}
+use borrow.Author.Tests.{lt-ltb, le-ltb, not-true, not-false}
+use lib.ListN.{length, getD, drop, drop-of-length-le}
+use lib.Seq.{drop-cons}
+use Rattle.nodes.specs.Steps.{edgesBy, stretch, rowBy, RowAt, updated}
+use Rattle.nodes.specs.Laws.Some.{All}
+use Rattle.walk.specs.Progress.{Crosses}
+use Rattle.walk.proofs.Crossing.{went-through, paid-for, then-more, then-none}
+use Rattle.walk.proofs.cross_parts.Statement.{statement}
+use Rattle.walk.proofs.cross_parts.Tie as tie
+
+-- what is left to do: the edges for the parts from i on are yet to be crossed
+record Left (ws nodes₀ : List ℕ) (x from d made budget : ℕ) (nodes : List ℕ) (i span rest n : ℕ) : Type 0 where
+  low : i ≤ length ws
+  size : length nodes ≡ length nodes₀
+  paid : n ≤ budget
+  small : rest ≤ x
+  inside : All (λ t. t ≤ length nodes₀) (edgesBy span (drop i ws) (from + d) rest)
+  goes : (after : List ℕ) (ok : Bool) (count : ℕ) → Crosses (rowBy span (drop i ws) from rest d) n budget nodes after ok count
+      → Crosses (rowBy (length nodes₀) ws from x d) made budget nodes₀ after ok count
+
+module _ (ws nodes₀ : List ℕ) (x from d made budget : ℕ) where
+  begin : RowAt (length nodes₀) ws x (from + d) → made ≤ budget → Left ws nodes₀ x from d made budget nodes₀ 0 (length nodes₀) x made
+  begin g h = record { low = omega arith; size = refl; paid = h; small = le-refl x; inside = g .targets; goes = λ after ok count r. r }
+
+  module _ (nodes : List ℕ) (i span rest n : ℕ) (s : Left ws nodes₀ x from d made budget nodes i span rest n) where
+    -- all parts are passed
+    finish : length ws ≤ i → Crosses (rowBy (length nodes₀) ws from x d) made budget nodes₀ nodes true n
+    unfolding updated rowBy
+    finish k = s .goes nodes true n (rw (drop-of-length-le ws {i = i} k) (went-through [] n budget nodes nodes n (sym (add-zero n)) (s .paid) refl))
+
+    module _ (h : i < length ws) where
+      -- the part's edges are not there
+      pass : span ≤ rest + getD ws i 0 → Left ws nodes₀ x from d made budget nodes (i + 1) (getD ws i 0) (rest % getD ws i 0) n
+      unfolding edgesBy rowBy
+      pass l =
+          record {
+            low = omega arith;
+            size = s .size;
+            paid = s .paid;
+            small = le-trans (mod-le rest (getD ws i 0)) (s .small);
+            inside = rw (add-one i) (rw (drop-cons ws i 0 h, le-ltb _ _ l) at (s .inside));
+            goes = rw (add-one i) (rw (drop-cons ws i 0 h, le-ltb _ _ l) at (s .goes));
+          }
+
+      module _ (l : rest + getD ws i 0 < span) where
+        target : from + d + getD ws i 0 ≤ length nodes₀
+        unfolding edgesBy
+        target = (rw (drop-cons ws i 0 h, lt-ltb _ _ l) at (s .inside)) .0
+
+        module _ (nodes′ : List ℕ) (ok : Bool) (n′ : ℕ) (r : Crosses (stretch (from + getD ws i 0) d) n budget nodes nodes′ ok n′) where
+          stop : ok ≡ false → Crosses (rowBy (length nodes₀) ws from x d) made budget nodes₀ nodes′ ok n′
+          unfolding rowBy
+          stop e = s .goes nodes′ ok n′ (rw (drop-cons ws i 0 h, lt-ltb _ _ l) (then-none _ _ n budget nodes nodes′ ok n′ r e))
+
+          go-on : length nodes′ ≡ length nodes → ok ≡ true → Left ws nodes₀ x from d made budget nodes′ (i + 1) (getD ws i 0) (rest % getD ws i 0) n′
+          unfolding edgesBy rowBy
+          go-on same e =
+              record {
+                low = omega arith;
+                size = same ∙ s .size;
+                paid = paid-for _ n budget nodes nodes′ ok n′ r e;
+                small = le-trans (mod-le rest (getD ws i 0)) (s .small);
+                inside = rw (add-one i) ((rw (drop-cons ws i 0 h, lt-ltb _ _ l) at (s .inside)) .1);
+                goes = λ after ok′ count t. s .goes after ok′ count (rw (drop-cons ws i 0 h, lt-ltb _ _ l) (then-more _ _ n budget nodes nodes′ ok n′ r e after ok′ count (rw (add-one i) at t)));
+              }
+
+abbrev Inv-loop : tie.InvT-loop
+Inv-loop weights nodes₀ x from d made budget i₀ span₀ rest₀ n₀ nodes i span rest n = Left weights nodes₀ x from d made budget nodes i span rest n
+
+abbrev μ-loop : tie.MeasureT-loop
+μ-loop weights nodes₀ x from d made budget i₀ span₀ rest₀ n₀ nodes i span rest n = length weights - i
+
+abbrev start : tie.In-loop Inv-loop μ-loop → tie.Start Inv-loop μ-loop
+start c = c .before .before .before .before
+
+-- where the edges of the part at hand lead
+aim : (c : tie.In-loop Inv-loop μ-loop) → c .before .loop .rest + getD (start c .args .weights .now) (c .before .loop .i) 0 < c .before .loop .span
+    → start c .args .from + start c .args .d + getD (start c .args .weights .now) (c .before .loop .i) 0 ≤ length (start c .args .nodes .now)
+aim c = target _ _ _ _ _ (start c .args .made) (start c .args .budget) _ _ _ _ _ (c .before .loop .inv) (c .loop-test .taken)
+
+loop-holds : tie.Need-loop-holds Inv-loop μ-loop
+loop-holds c = let s = c .before .before in begin _ _ _ _ _ _ _ (s .pre .0) (s .pre .1)
+
+mul-w : tie.Need-mul-w Inv-loop μ-loop
+mul-w c = search needs
+
+shared-slice-read-w : tie.Need-shared-slice-read-w Inv-loop μ-loop
+shared-slice-read-w c = search needs
+
+add-if1 : tie.Need-add-if1 Inv-loop μ-loop
+add-if1 c = let t = c .before in let g = start t .pre .0 in omega (arith, g .small (t .before .loop .i) (t .loop-test .taken), g .begins, g .ends, t .before .loop .inv .small)
+
+add-cross-stretch : tie.Need-add-cross-stretch Inv-loop μ-loop
+add-cross-stretch c = omega (arith, aim (c .before .before .before) (c .before .if1 .taken))
+
+cross-stretch-requires : tie.Need-cross-stretch-requires Inv-loop μ-loop
+cross-stretch-requires c κs =
+    let t = c .before .before .before in
+    (omega (arith, aim t (c .before .if1 .taken), t .before .loop .inv .size), t .before .loop .inv .paid)
+
+same-length : tie.Need-same-length Inv-loop μ-loop
+same-length c = let k = c .before .before .before .before in k .cross-stretch .kept .0 ∙ k .before .before .before .before .before .loop .inv .size
+
+returns : tie.Need-returns Inv-loop μ-loop
+returns c =
+    let k = c .before .before .before .before in
+    let t = k .before .before .before .before in
+    stop _ _ _ _ _ _ _ _ _ _ _ _ (t .before .loop .inv) (t .loop-test .taken) (k .before .before .if1 .taken) _ _ _ (k .cross-stretch .ensures) (not-true (k .cross-stretch .result .ok) (c .if2 .taken))
+
+rem-rest : tie.Need-rem-rest Inv-loop μ-loop
+rem-rest c = let t = c .before .before in start t .pre .0 .some (t .before .loop .i) (t .loop-test .taken)
+
+add-i : tie.Need-add-i Inv-loop μ-loop
+add-i c = search needs
+
+loop-less : tie.Need-loop-less Inv-loop μ-loop
+loop-less c = search needs
+
+loop-again : tie.Need-loop-again Inv-loop μ-loop
+loop-again c =
+    let t = c .before .before in
+    let l = t .before .loop in
+    ⊎-elim
+    (λ w. rw (w .7, w .8)
+    (go-on _ _ _ _ _ _ _ _ _ _ _ _ (l .inv) (t .loop-test .taken) (w .0 .taken) _ _ _ (w .2 .ensures) (w .2 .kept .0) (not-false (w .2 .result .ok) (w .6 .left))))
+    (λ w. rw (w .1, w .2) (pass _ _ _ _ _ _ _ _ _ _ _ _ (l .inv) (t .loop-test .taken) (w .0 .left)))
+    (c .if1 .came)
+
+same-length-2 : tie.Need-same-length-2 Inv-loop μ-loop
+same-length-2 c = c .before .loop .inv .size
+
+returns-2 : tie.Need-returns-2 Inv-loop μ-loop
+returns-2 c = finish _ _ _ _ _ _ _ _ _ _ _ _ (c .before .loop .inv) (c .loop-test .left)
+
+pub cross-parts-spec : {M : Type 1} → statement M
+cross-parts-spec =
+    tie.close
+    (tie.spec
+    Inv-loop
+    μ-loop
+    loop-holds
+    mul-w
+    shared-slice-read-w
+    add-if1
+    add-cross-stretch
+    cross-stretch-requires
+    same-length
+    returns
+    rem-rest
+    add-i
+    loop-less
+    loop-again
+    same-length-2
+    returns-2)
