@@ -22,9 +22,9 @@ tableOf l log = joined (λ i. tableEntry l log i ∷ []) (8 * rowCount log)
 abbrev pub lower : List ℕ → ℕ → ℕ → ℕ → Bool
 lower table p q k = ltb (getD table (p + k) 0) (getD table (q + k) 0)
 
--- 1 where only the first has a lower level, so that it dominates; 2 where only the second has one; else 0
+-- 1 where only the first has a lower level, so that it dominates; 2 where only the second has one; 3 where both have, 0 where they are equal
 abbrev pub relation : Bool → Bool → ℕ
-relation first second = cond first (cond second 0 1) (cond second 2 0)
+relation first second = cond first (cond second 3 1) (cond second 2 0)
 
 -- how rows a and b of a table stand, both ways at once; 0 where the table has no such row
 unfoldable pub compared : List ℕ → ℕ → ℕ → ℕ

@@ -72,7 +72,7 @@ fn relation_of(first: bool, second: bool) -> u8
     ensures { λ r. ⌜ r ≡ relation first second ⌝ }
 {
     if first {
-        return if second { 0 } else { 1 };
+        return if second { 3 } else { 1 };
     }
     if second { 2 } else { 0 }
 }
@@ -95,7 +95,7 @@ fn rows_compared(table: &[u16], p: usize, q: usize) -> u8
     relation_of(first, second)
 }
 
-// How rows a and b of a table stand: 1 where a dominates, 2 where b does, else 0.
+// How rows a and b of a table stand: 1 where a dominates, 2 where b does, 3 where neither does and they differ, else 0.
 pub fn compare(table: &[u16], a: usize, b: usize) -> u8
     ensures { λ r. ⌜ r ≡ compared (now (table .entry)) a b ⌝ }
 {

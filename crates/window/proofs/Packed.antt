@@ -1,14 +1,15 @@
 -- A work list filtered in place, entry by entry; and the marks that its entries still make.
 use Prim.Native.Nat.{ℕ, zero, suc, _+_, _-_, _*_, _≤_, _<_}
 use native.Mathlib.Omega.{arith}
+use native.Mathlib.Numerals.{add-one}
+use native.Mathlib.Nat.{zero-add}
 use mathlib.Core.Path.{_≡_, refl, sym, ap, ap₂, subst, _∙_}
 use mathlib.Core.Bool.{Bool, true, false}
 use mathlib.Core.List.{List, [], _∷_, _++_, append-nil, append-assoc}
 use lib.ListN.{getD, set, length}
-use borrow.Author.Tests.{not-false}
 use Rattle.machine.specs.Machine.{Entry, keep, marked}
-use Rattle.window.specs.Work.{entryAt, entries, putEntry, every, Flags, Filtered}
-use Rattle.window.proofs.Entries.{entries-step, entries-done, length-put, put-other, entries-put0}
+use Rattle.window.specs.Work.{entryAt, entries, putEntry, Filtered}
+use Rattle.window.proofs.Entries.{entries-step, entries-done, entries-snoc, length-put, put-other, entries-put0}
 
 -- l is l₀ with its first i of n entries packed by the test p: m of them stay
 pub record Packed (p : Entry → Bool) (l₀ l : List ℕ) (n i m : ℕ) : Type 0 where
@@ -30,6 +31,24 @@ module _ (p : Entry → Bool) (l₀ : List ℕ) (n : ℕ) where
   pub keep-no : (i : ℕ) → i < n → p (entryAt l₀ i) ≡ false → keep p (entries l₀ i (n - i)) ≡ keep p (entries l₀ (i + 1) (n - (i + 1)))
   unfolding keep
   keep-no i h q = rw (entries-step l₀ i n h, q)
+
+  -- the first i entries stay where they are
+  pub pack-from : (i : ℕ) → i ≤ n → ((j : ℕ) → j < i → p (entryAt l₀ j) ≡ true) → Packed p l₀ l₀ n i i
+  pack-from zero h f = pack-start
+  pack-from (suc i) h f =
+      let z = pack-from i (omega arith) (λ j k. f j (omega arith)) in
+      let e : i + 1 ≡ suc i = add-one i in
+      record {
+        ordered = omega arith;
+        within = h;
+        long = refl;
+        rest = λ j k. refl;
+        done =
+            ap (λ (x : List Entry). x ++ keep p (entries l₀ (suc i) (n - suc i))) (rw (zero-add i) at (entries-snoc l₀ 0 i))
+            ∙ append-assoc (entries l₀ 0 i) (entryAt l₀ i ∷ []) (keep p (entries l₀ (suc i) (n - suc i)))
+            ∙ ap (λ (x : List Entry). entries l₀ 0 i ++ x) (sym (rw e at (keep-yes i h (f i (omega arith)))))
+            ∙ z .done;
+      }
 
   module _ {l : List ℕ} {i m : ℕ} (h : i < n) (z : Packed p l₀ l n i m) where
     pub pack-skip : p (entryAt l₀ i) ≡ false → Packed p l₀ l n (i + 1) m
@@ -100,19 +119,3 @@ pack-filtered p l₀ l n i m h z = record { few = omega (arith, z .ordered, z .w
 pub mark-all-end : (l : List ℕ) (n i : ℕ) (m : List ℕ) → n ≤ i → marked (entries l i (n - i)) m ≡ m
 unfolding marked
 mark-all-end l n i m h = rw (entries-done l i n h)
-
--- ---- nothing is taken out
-
-keep-every : (p : Entry → Bool) (l : List ℕ) (i n : ℕ) → ((j : ℕ) → j < i + n → p (entryAt l j) ≡ true) → keep p (entries l i n) ≡ entries l i n
-unfolding keep entries
-keep-every p l i zero h = refl
-keep-every p l i (suc n) h = rw (h i (omega arith)) (ap (λ (es : List Entry). entryAt l i ∷ es) (keep-every p l (suc i) n (λ j k. h j (omega arith))))
-
-pub unfiltered : (p : Entry → Bool) (l : List ℕ) (n : ℕ) (flags : List ℕ) → Flags every l n flags → Flags p l n flags → Filtered p l l n n
-unfolding every
-unfiltered p l n flags none f = record {
-  few = omega arith;
-  long = refl;
-  kept = sym (keep-every p l 0 n (λ j k. not-false (p (entryAt l j)) (sym (f j (omega arith)) ∙ none j (omega arith))));
-  rest = λ j k. refl;
-}

@@ -2,17 +2,21 @@
 use Prim.Native.Nat.{ℕ, suc, _+_, _-_, _*_, _/_, _≤_, _<_}
 use native.Mathlib.Omega.{arith}
 use native.Mathlib.Decide.{ℕ-discrete}
-use mathlib.Core.Path.{_≡_, refl, _∙_}
-use mathlib.Core.Bool.{Bool, true, false, not, _&&_, cond}
+use mathlib.Core.Path.{_≡_, refl, sym, _∙_}
+use mathlib.Core.Bool.{Bool, true, false, not, _&&_, _||_, cond, true≢false}
 use mathlib.Core.List.{List}
 use lib.Dec.{eqb, ltb}
 use lib.ListN.{getD, set, length}
 use lib.Seq.{getD-set-same, getD-set-other}
+use borrow.Author.Count.{below-more}
+use borrow.Author.Tests.{eq-eqb, ne-eqb, not-false}
 use Rattle.laws.specs.First.{anyBelow}
 use Rattle.laws.specs.Lists.{anyOf}
+use Rattle.laws.specs.Laws.Bools.{neither}
 use Rattle.pareto.specs.Table.{compared, relation, lower}
 use Rattle.machine.specs.Machine.{Entry, dominated, compares, spares}
-use Rattle.window.specs.Work.{tableDominates, entryAt, entries, Flags}
+use Rattle.window.specs.Work.{tableDominates, entryAt, entries, Undropped, Fronted, Scanned}
+use Rattle.window.specs.declared.Front.{Front}
 use Rattle.window.proofs.Entries.{entries-step, entries-done}
 
 -- one compare tells both ways
@@ -29,43 +33,104 @@ pub compared-turned : (t : List ℕ) (a b : ℕ) → eqb (compared t a b) 2 ≡ 
 unfolding compared tableDominates
 compared-turned t a b = turned (ltb a (length t / 8)) (ltb b (length t / 8)) (anyBelow (lower t (8 * a) (8 * b)) 8) (anyBelow (lower t (8 * b) (8 * a)) 8)
 
-module _ (dom : ℕ → ℕ → Bool) (r : ℕ) (l : List ℕ) (i n : ℕ) (h : i < n) where
-  pub dominated-on : dom (getD l (2 * i) 0) r ≡ false → dominated dom r (entries l i (n - i)) ≡ dominated dom r (entries l (i + 1) (n - (i + 1)))
-  unfolding dominated anyOf entryAt
-  dominated-on q = rw (entries-step l i n h, q)
+-- ---- the entries that do not dominate the row, one by one
 
-  pub dominated-hit : dom (getD l (2 * i) 0) r ≡ true → dominated dom r (entries l i (n - i)) ≡ true
-  unfolding dominated anyOf entryAt
-  dominated-hit q = rw (entries-step l i n h, q)
+module _ (dom : ℕ → ℕ → Bool) (r : ℕ) (l : List ℕ) (n : ℕ) where
+  pub undropped-start : Undropped dom r l n 0
+  undropped-start = let e : n - 0 ≡ n = omega arith in record { within = omega arith; dominated-left = rw e; compares-left = rw e (omega arith) }
 
-  pub compares-on : dom (getD l (2 * i) 0) r ≡ false → compares dom r (entries l i (n - i)) ≡ suc (compares dom r (entries l (i + 1) (n - (i + 1))))
-  unfolding compares entryAt
-  compares-on q = rw (entries-step l i n h, q)
+  module _ {i : ℕ} (z : Undropped dom r l n i) where
+    pub undropped-more : i < n → dom (getD l (2 * i) 0) r ≡ false → Undropped dom r l n (i + 1)
+    unfolding dominated compares anyOf entryAt
+    undropped-more h q = record { within = omega arith; dominated-left = rw (entries-step l i n h, q) at (z .dominated-left); compares-left = omega (arith, rw (entries-step l i n h, q) at (z .compares-left)) }
 
-  pub compares-hit : dom (getD l (2 * i) 0) r ≡ true → compares dom r (entries l i (n - i)) ≡ 1
-  unfolding compares entryAt
-  compares-hit q = rw (entries-step l i n h, q)
+    pub undropped-hit : i < n → dom (getD l (2 * i) 0) r ≡ true → (true ≡ dominated dom r (entries l 0 n)) × (i + 1 ≡ compares dom r (entries l 0 n))
+    unfolding dominated compares anyOf entryAt
+    undropped-hit h q = (rw (entries-step l i n h, q) at (z .dominated-left), omega (arith, rw (entries-step l i n h, q) at (z .compares-left)))
 
-pub dominated-end : (dom : ℕ → ℕ → Bool) (r : ℕ) (l : List ℕ) (i n : ℕ) → n ≤ i → dominated dom r (entries l i (n - i)) ≡ false
-unfolding dominated anyOf
-dominated-end dom r l i n h = rw (entries-done l i n h)
+    pub undropped-end : n ≤ i → (false ≡ dominated dom r (entries l 0 n)) × (n ≡ compares dom r (entries l 0 n))
+    unfolding dominated compares anyOf
+    undropped-end h = (rw (entries-done l i n h) at (z .dominated-left), omega (arith, z .within, rw (entries-done l i n h) at (z .compares-left)))
 
-pub compares-end : (dom : ℕ → ℕ → Bool) (r : ℕ) (l : List ℕ) (i n : ℕ) → n ≤ i → compares dom r (entries l i (n - i)) ≡ 0
-unfolding compares
-compares-end dom r l i n h = rw (entries-done l i n h)
+-- ---- what the compare v with entry i tells
 
--- the flags of the first i entries, and one more
-pub flags-more : (p : Entry → Bool) (l : List ℕ) (i : ℕ) (f : List ℕ) (v : ℕ) → Flags p l i f → i < length f → eqb v 2 ≡ not (p (entryAt l i)) → Flags p l (i + 1) (set f i v)
-flags-more p l i f v h room e j k = go (ℕ-discrete j i)
+module _ (t l : List ℕ) (r i v : ℕ) (e : v ≡ compared t (getD l (2 * i) 0) r) where
+  pub hits : v ≡ 1 → tableDominates t (getD l (2 * i) 0) r ≡ true
+  unfolding tableDominates
+  hits q = eq-eqb _ 1 (sym e ∙ q)
+
+  pub misses : (v ≡ 1 → ⊥) → tableDominates t (getD l (2 * i) 0) r ≡ false
+  unfolding tableDominates
+  misses q = ne-eqb _ 1 (λ x. q (e ∙ x))
+
+  pub flag-value : eqb v 2 ≡ not (spares (tableDominates t) r (entryAt l i))
+  unfolding spares entryAt
+  flag-value = rw e (compared-turned t (getD l (2 * i) 0) r ∙ twice (tableDominates t r (getD l (2 * i) 0)))
+    where
+      twice : (b : Bool) → b ≡ not (not b)
+      twice true = refl
+      twice false = refl
+
+  pub spared-by : eqb v 2 ≡ false → spares (tableDominates t) r (entryAt l i) ≡ true
+  spared-by q = not-false (spares (tableDominates t) r (entryAt l i)) (sym flag-value ∙ q)
+
+-- the flags from place s on, and one more
+pub told-more : (p : Entry → Bool) (l : List ℕ) (s i : ℕ) (f : List ℕ) (v : ℕ) → ((j : ℕ) → s ≤ j → j < i → eqb (getD f j 0) 2 ≡ not (p (entryAt l j))) → i < length f → eqb v 2 ≡ not (p (entryAt l i))
+    → (j : ℕ) → s ≤ j → j < i + 1 → eqb (getD (set f i v) j 0) 2 ≡ not (p (entryAt l j))
+told-more p l s i f v h room e j a k = go (ℕ-discrete j i)
   where
     go : Dec (j ≡ i) → eqb (getD (set f i v) j 0) 2 ≡ not (p (entryAt l j))
     go (yes q) = rw (q, getD-set-same f i v 0 room) e
-    go (no q) = rw (getD-set-other f i j v 0 q) (h j (omega arith))
+    go (no q) = rw (getD-set-other f i j v 0 q) (h j a (omega arith))
 
-pub flag-value : (t l : List ℕ) (r i v : ℕ) → v ≡ compared t (getD l (2 * i) 0) r → eqb v 2 ≡ not (spares (tableDominates t) r (entryAt l i))
-unfolding spares entryAt
-flag-value t l r i v e = rw e (compared-turned t (getD l (2 * i) 0) r ∙ twice (tableDominates t r (getD l (2 * i) 0)))
-  where
-    twice : (b : Bool) → b ≡ not (not b)
-    twice true = refl
-    twice false = refl
+-- ---- the entries behind the front, one by one
+
+-- the flags tell of those from place `from` on, up to place i; v is the compare with the entry there, d says that the row dominates one
+pub record Scanning (t : List ℕ) (r : ℕ) (l : List ℕ) (n from : ℕ) (f : List ℕ) (i v : ℕ) (d : Bool) : Type 0 where
+  pub undropped : Undropped (tableDominates t) r l n i
+  pub behind : from ≤ i
+  pub next : i < n → v ≡ compared t (getD l (2 * i) 0) r
+  pub front : (j : ℕ) → j < from → spares (tableDominates t) r (entryAt l j) ≡ true
+  pub told : (j : ℕ) → from ≤ j → j < i → eqb (getD f j 0) 2 ≡ not (spares (tableDominates t) r (entryAt l j))
+  pub none : d ≡ false → (j : ℕ) → j < i → spares (tableDominates t) r (entryAt l j) ≡ true
+
+pub scanning-start : {t l f : List ℕ} {r n : ℕ} {g : Front} → Fronted t r l n g → Scanning t r l n (g .at) f (g .at) (g .relation) false
+scanning-start z = record { undropped = z .undropped; behind = omega arith; next = z .next; front = z .spared; told = λ j a b. absurd (omega arith); none = λ _. z .spared }
+
+module _ {t : List ℕ} {r : ℕ} {l : List ℕ} {n from : ℕ} {f : List ℕ} {i v : ℕ} {d : Bool} (z : Scanning t r l n from f i v d) where
+  pub scanning-hit : i < n → v ≡ 1 → Scanned (tableDominates t) r l n f (record { dropped = true; from = from; compares = i + 1 })
+  scanning-hit h q =
+      let e = undropped-hit (tableDominates t) r l n (z .undropped) h (hits t l r i v (z .next h) q) in
+      record { dropped-is = e .0; count-is = e .1; few = omega (arith, z .behind); flags-are = λ x. absurd (true≢false x) }
+
+  pub scanning-more : i < n → (v ≡ 1 → ⊥) → n ≤ length f → {v′ : ℕ} → (i + 1 < n → v′ ≡ compared t (getD l (2 * (i + 1)) 0) r) → Scanning t r l n from (set f i v) (i + 1) v′ (d || eqb v 2)
+  scanning-more h q room next = record {
+    undropped = undropped-more (tableDominates t) r l n (z .undropped) h (misses t l r i v (z .next h) q);
+    behind = omega (arith, z .behind);
+    next = next;
+    front = z .front;
+    told = told-more (spares (tableDominates t) r) l from i f v (z .told) (omega arith) (flag-value t l r i v (z .next h));
+    none = λ x.
+        let b = neither d (eqb v 2) x in
+        below-more (λ (j : ℕ). spares (tableDominates t) r (entryAt l j) ≡ true) i (z .none (b .0)) (spared-by t l r i v (z .next h) (b .1));
+  }
+
+  module _ (h : n ≤ i) where
+    ended : (false ≡ dominated (tableDominates t) r (entries l 0 n)) × (n ≡ compares (tableDominates t) r (entries l 0 n))
+    ended = undropped-end (tableDominates t) r l n (z .undropped) h
+
+    pub scanning-some : Scanned (tableDominates t) r l n f (record { dropped = false; from = from; compares = n })
+    scanning-some = record {
+      dropped-is = ended .0;
+      count-is = ended .1;
+      few = omega (arith, z .behind, z .undropped .within);
+      flags-are = λ _. record { front = z .front; told = λ j a b. z .told j a (omega arith) };
+    }
+
+    pub scanning-none : d ≡ false → Scanned (tableDominates t) r l n f (record { dropped = false; from = n; compares = n })
+    scanning-none q = record {
+      dropped-is = ended .0;
+      count-is = ended .1;
+      few = omega arith;
+      flags-are = λ _. record { front = λ j a. z .none q j (omega arith); told = λ j a b. absurd (omega arith) };
+    }

@@ -1,6 +1,6 @@
 -- How the engine holds the machine's state, and what its functions promise. Entry i of the work list is its row at 2 i and its
 -- timestamp at 2 i + 1: the window from entry 0 on, what waits and the overflow from entry w on.
-use Prim.Native.Nat.{ℕ, zero, suc, _+_, _*_, _≤_, _<_}
+use Prim.Native.Nat.{ℕ, zero, suc, _+_, _-_, _*_, _≤_, _<_}
 use mathlib.Core.Path.{_≡_}
 use mathlib.Core.Bool.{Bool, true, false, not}
 use mathlib.Core.List.{List, [], _∷_}
@@ -9,6 +9,7 @@ use lib.ListN.{getD, set, length}
 use Rattle.laws.specs.Lists.{passing}
 use Rattle.pareto.specs.Table.{compared}
 use Rattle.machine.specs.Machine.{Entry, State, keep, marked, older, younger, dominated, compares, spares, judge, read, pass, passes}
+use Rattle.window.specs.declared.Front.{Front}
 use Rattle.window.specs.declared.Standing.{Standing}
 use Rattle.window.specs.declared.Verdict.{Verdict}
 
@@ -55,20 +56,29 @@ pub record Released (s : ℕ) (l l′ : List ℕ) (n m : ℕ) (marks marks′ : 
   pub filtered : Filtered (younger s) l l′ n m
   pub marks-are : marks′ ≡ marked (keep (older s) (entries l 0 n)) marks
 
--- a flag of 2 says that the test p takes the entry out
-abbrev pub Flags : (Entry → Bool) → List ℕ → ℕ → List ℕ → Type 0
-Flags p l n flags = (j : ℕ) → j < n → eqb (getD flags j 0) 2 ≡ not (p (entryAt l j))
+-- the test p takes no entry out before place i of n, and from there on a flag of 2 says that it does
+pub record Flags (p : Entry → Bool) (l : List ℕ) (i n : ℕ) (flags : List ℕ) : Type 0 where
+  pub front : (j : ℕ) → j < i → p (entryAt l j) ≡ true
+  pub told : (j : ℕ) → i ≤ j → j < n → eqb (getD flags j 0) 2 ≡ not (p (entryAt l j))
 
--- the test that takes no entry out
-unfoldable pub every : Entry → Bool
-every e = true
+-- row r was compared with the first i of n entries, and none of them dominates it
+pub record Undropped (dom : ℕ → ℕ → Bool) (r : ℕ) (l : List ℕ) (n i : ℕ) : Type 0 where
+  pub within : i ≤ n
+  pub dominated-left : dominated dom r (entries l i (n - i)) ≡ dominated dom r (entries l 0 n)
+  pub compares-left : i + compares dom r (entries l i (n - i)) ≡ compares dom r (entries l 0 n)
+
+-- row r neither dominates one of the first entries, up to a place, nor is dominated; the compare with the entry there is known
+pub record Fronted (table : List ℕ) (r : ℕ) (l : List ℕ) (n : ℕ) (f : Front) : Type 0 where
+  pub undropped : Undropped (tableDominates table) r l n (f .at)
+  pub spared : (j : ℕ) → j < f .at → spares (tableDominates table) r (entryAt l j) ≡ true
+  pub next : f .at < n → f .relation ≡ compared table (getD l (2 * f .at) 0) r
 
 -- row r was compared with the first n entries
 pub record Scanned (dom : ℕ → ℕ → Bool) (r : ℕ) (l : List ℕ) (n : ℕ) (flags : List ℕ) (v : Verdict) : Type 0 where
   pub dropped-is : v .dropped ≡ dominated dom r (entries l 0 n)
   pub count-is : v .compares ≡ compares dom r (entries l 0 n)
-  pub flags-are : v .dropped ≡ false → Flags (spares dom r) l n flags
-  pub none-are : v .dropped ≡ false → v .dominates ≡ false → Flags every l n flags
+  pub few : v .from ≤ n
+  pub flags-are : v .dropped ≡ false → Flags (spares dom r) l (v .from) n flags
 
 -- there is room for one more entry, and no number is near its end
 pub record Ready (w size flags : ℕ) (p : Standing) : Type 0 where

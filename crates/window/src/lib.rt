@@ -2,11 +2,12 @@
 // what its calls require.
 ghost use mathlib.Core.Path.{_≡_};
 ghost use Prim.Native.Nat.{ℕ, _+_, _*_, _<_, _≤_};
-ghost use mathlib.Core.Bool.{Bool, false};
+ghost use mathlib.Core.Bool.{Bool};
 ghost use mathlib.Core.List.{map};
 ghost use lib.ListN.{getD, set, length, replicate};
+ghost use Rattle.pareto.specs.Table.{compared};
 ghost use Rattle.machine.specs.Machine.{Entry, marked, unread, machine};
-ghost use Rattle.window.specs.Work.{tableDominates, allRows, entries, putEntry, Filtered, Released, every, Flags, Scanned, Ready, Judged, Read, PassReady, Passed, RunReady, Ran};
+ghost use Rattle.window.specs.Work.{tableDominates, allRows, entries, putEntry, Filtered, Released, Flags, Fronted, Scanned, Ready, Judged, Read, PassReady, Passed, RunReady, Ran};
 
 // ---- the lent lists: a place past the end reads as 0, and a store there does nothing
 
@@ -42,52 +43,95 @@ fn mark(marks: &mut [u8], row: usize)
 
 // ---- reading one row
 
-// Whether a row is dropped, whether it dominates an entry, and how many compares told so.
+// How many entries, the oldest first, are apart from a row: neither dominates, and they differ. How the next one and the row stand, or 3.
+pub struct Front {
+    pub at: usize,
+    pub relation: u8,
+}
+
+// Whether a row is dropped, from which entry on `remove` has to look, and how many compares told so.
 pub struct Verdict {
     pub dropped: bool,
-    pub dominates: bool,
+    pub from: usize,
     pub compares: usize,
 }
 
-// Compares a row with the window's entries, the oldest that is left first, until one dominates it. Each compare is kept as a flag for
-// `remove`.
-fn scan(table: &[u16], work: &[u32], held: usize, row: u32, flags: &mut [u8]) -> Verdict
-    requires { ⌜ (held ≤ 1024) × (held ≤ length (now flags)) ⌝ }
-    ensures { λ v. ⌜ Scanned (tableDominates (now (table .entry))) row (now (work .entry)) held (now (flags .exit)) v ⌝ }
+// How an entry of the window and a row stand; 3 behind the last.
+fn entry_compared(table: &[u16], work: &[u32], at: usize, held: usize, row: u32) -> u8
+    requires { ⌜ (held ≤ 1024) × (2 * held ≤ length (now work)) ⌝ }
+    ensures { λ k. ⌜ (at < held → k ≡ compared (now (table .entry)) (getD (now (work .entry)) (2 * at) 0) row) ⌝ }
 {
-    let mut dominates = false;
+    if held <= at {
+        return 3;
+    }
+    pareto::compare(table, work[2 * at] as usize, row as usize)
+}
+
+// Most entries are apart from a row: a short loop of its own passes them.
+fn apart(table: &[u16], work: &[u32], held: usize, row: u32) -> Front
+    requires { ⌜ (held ≤ 1024) × (2 * held ≤ length (now work)) ⌝ }
+    ensures { λ f. ⌜ Fronted (now (table .entry)) row (now (work .entry)) held f ⌝ }
+{
     let mut left = held;
     while 0 < left {
         let at = held - left;
-        let relation = pareto::compare(table, word(work, 2 * at) as usize, row as usize);
+        let relation = entry_compared(table, work, at, held, row);
+        if relation != 3 {
+            return Front { at, relation };
+        }
+        left -= 1;
+    }
+    Front {
+        at: held,
+        relation: 3,
+    }
+}
+
+// Compares a row with the window's entries, the oldest that is left first, until one dominates it. Behind the entries that are apart, each
+// compare is kept as a flag for `remove`.
+fn scan(table: &[u16], work: &[u32], held: usize, row: u32, flags: &mut [u8]) -> Verdict
+    requires { ⌜ (held ≤ 1024) × (2 * held ≤ length (now work)) × (held ≤ length (now flags)) ⌝ }
+    ensures { λ v. ⌜ Scanned (tableDominates (now (table .entry))) row (now (work .entry)) held (now (flags .exit)) v ⌝ }
+{
+    let front = apart(table, work, held, row);
+    let from = front.at;
+    let mut at = from;
+    let mut relation = front.relation;
+    let mut dominates = false;
+    while at < held {
         if relation == 1 {
             return Verdict {
                 dropped: true,
-                dominates,
+                from,
                 compares: at + 1,
             };
         }
         dominates = dominates | (relation == 2);
         flags[at] = relation;
-        left -= 1;
+        at += 1;
+        relation = entry_compared(table, work, at, held, row);
+    }
+    if dominates {
+        return Verdict {
+            dropped: false,
+            from,
+            compares: held,
+        };
     }
     Verdict {
         dropped: false,
-        dominates,
+        from: held,
         compares: held,
     }
 }
 
-// Removes the entries whose flag is 2, where there is `some`; how many stay comes back.
-fn remove(flags: &[u8], work: &mut [u32], held: usize, some: bool) -> usize
-    requires { ⌜ (held ≤ 1024) × (held ≤ length (now flags)) × (2 * held ≤ length (now work)) × (some ≡ false → Flags every (now work) held (now flags)) ⌝ }
-    ensures { λ m. ⌜ ((p : Entry → Bool) → Flags p (now (work .entry)) held (now (flags .entry)) → Filtered p (now (work .entry)) (now (work .exit)) held m) ⌝ }
+// Removes the entries whose flag is 2, from one entry on; how many stay comes back.
+fn remove(flags: &[u8], work: &mut [u32], from: usize, held: usize) -> usize
+    requires { ⌜ (held ≤ 1024) × (from ≤ held) × (held ≤ length (now flags)) × (2 * held ≤ length (now work)) ⌝ }
+    ensures { λ m. ⌜ ((p : Entry → Bool) → Flags p (now (work .entry)) from held (now (flags .entry)) → Filtered p (now (work .entry)) (now (work .exit)) held m) ⌝ }
 {
-    if !some {
-        return held;
-    }
-    let mut i: usize = 0;
-    let mut m: usize = 0;
+    let mut i = from;
+    let mut m = from;
     while i < held {
         let row = word(work, 2 * i);
         let timestamp = word(work, 2 * i + 1);
@@ -156,7 +200,7 @@ fn judge(
             count,
         };
     }
-    let held = remove(flags, work, p.held, verdict.dominates);
+    let held = remove(flags, work, verdict.from, p.held);
     if held < w {
         put_entry(work, held, row, clock);
         return Standing {

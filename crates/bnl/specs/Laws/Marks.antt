@@ -22,7 +22,7 @@ use Rattle.pareto.specs.Checked.{rowsNumber}
 use Rattle.pareto.specs.Table.{tableOf}
 use Rattle.pareto.specs.Laws.Best.{row-transitive}
 use Rattle.pareto.specs.Laws.Dominance.{dominates-irreflexive}
-use Rattle.pareto.specs.Laws.Table.{compared-is}
+use Rattle.pareto.specs.Laws.Table.{compared-dominates}
 use Rattle.machine.specs.Machine.{machine}
 use Rattle.machine.specs.Laws.Agree.{machine-agree}
 use Rattle.machine.specs.Laws.Ends.{count-bound}
@@ -90,12 +90,7 @@ module _ (l : PreferenceList) (log : List ℤ) where
   module _ (e : listNumber l ≡ 0) (f : rowsNumber l log ≡ 0) where
     table-dominates : (a b : ℕ) → a < rowCount log → b < rowCount log → tableDominates (tableOf l log) a b ≡ rowDominates l log a b
     unfolding tableDominates
-    table-dominates a b h j = rw (compared-is l log e f a b h j) (first (rowDominates l log a b) (rowDominates l log b a))
-      where
-        first : (s t : Bool) → eqb (cond s 1 (cond t 2 0)) 1 ≡ s
-        first true t = refl
-        first false true = refl
-        first false false = refl
+    table-dominates a b h j = compared-dominates l log e f a b h j
 
     pub machine-table : (w : ℕ) → machine (tableDominates (tableOf l log)) w (allRows (rowCount log)) (rowCount log) ≡ machineOf l log w
     unfolding machineOf

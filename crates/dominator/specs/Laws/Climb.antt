@@ -10,7 +10,7 @@ use lib.Dec.{eqb}
 use lib.IntN.{ℤ}
 use lib.ListN.{length, take, drop}
 use lib.Seq.{sets, sets-eq, take-at}
-use borrow.Author.Tests.{eqb-true, eqb-false}
+use borrow.Author.Tests.{eq-eqb, eqb-true, eqb-false}
 use borrow.Author.Count.{below-more}
 use Rattle.laws.specs.Lists.{anyOf}
 use Rattle.laws.specs.Laws.AnyOf.{passing-found}
@@ -21,7 +21,7 @@ use Rattle.pareto.specs.Best.{competes, competing, vectorAt, rowDominates, isBe
 use Rattle.pareto.specs.Table.{tableEntry, tableOf, compared}
 use Rattle.pareto.specs.Laws.Best.{row-transitive}
 use Rattle.pareto.specs.Laws.Dominance.{dominates-irreflexive}
-use Rattle.pareto.specs.Laws.Table.{compared-is}
+use Rattle.pareto.specs.Laws.Table.{compared-dominates}
 use Rattle.dominator.specs.Climb.{higher, Ladder, Climb, Accepted, Climbed}
 
 module _ (table : List ℕ) (n row : ℕ) (h : Ladder table n row) where
@@ -53,17 +53,12 @@ module _ (table : List ℕ) (n row : ℕ) (h : Ladder table n row) where
             reached = k .reached;
           }
 
-first-only : (s t : Bool) → _≡_ {A = ℕ} (cond s 1 (cond t 2 0)) 1 → s ≡ true
-first-only true t e = refl
-first-only false true e = let z : ⊥ = omega arith in absurd z
-first-only false false e = let z : ⊥ = omega arith in absurd z
-
 module _ (l : PreferenceList) (log : List ℤ) (row : ℕ) (a : Accepted l log row) where
   compared-row : (s r : ℕ) → s < rowCount log → r < rowCount log → compared (tableOf l log) s r ≡ 1 → rowDominates l log s r ≡ true
-  compared-row s r b c e = first-only (rowDominates l log s r) (rowDominates l log r s) (sym (compared-is l log (a .list) (a .values) s r b c) ∙ e)
+  compared-row s r b c e = sym (compared-dominates l log (a .list) (a .values) s r b c) ∙ eq-eqb _ 1 e
 
   row-compared : (s r : ℕ) → s < rowCount log → r < rowCount log → rowDominates l log s r ≡ true → compared (tableOf l log) s r ≡ 1
-  row-compared s r b c e = compared-is l log (a .list) (a .values) s r b c ∙ rw e
+  row-compared s r b c e = eqb-true _ 1 (compared-dominates l log (a .list) (a .values) s r b c ∙ e)
 
   row-irreflexive : (s : ℕ) → rowDominates l log s s ≡ true → ⊥
   unfolding rowDominates

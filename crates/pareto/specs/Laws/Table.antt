@@ -6,7 +6,7 @@ use native.Mathlib.Nat.{mod-eq-of-lt}
 use native.Mathlib.Decide.{decLt}
 use mathlib.Core.Bool.{Bool, true, false, not, _&&_, _||_, cond}
 use mathlib.Core.List.{List, [], _∷_}
-use lib.Dec.{leb, ltb}
+use lib.Dec.{leb, ltb, eqb}
 use lib.IntN.{ℤ}
 use lib.ListN.{length, getD, List·getD-eq-default}
 use borrow.Author.Tests.{ltb-true, lt-ltb, le-ltb, leb-true, leb-false}
@@ -81,17 +81,17 @@ module _ (l : PreferenceList) (log : List ℤ) (e : listNumber l ≡ 0) (f : row
       ∙ some-of-eight (vectorAt l log a) (vectorAt l log b) (levels-length l (rowAt log a) ∙ sym (levels-length l (rowAt log b)))
       (omega (arith, levels-length l (rowAt log b), parts-few l))
 
-  -- 1 where row a dominates row b, 2 where b dominates a, else 0
-  pub compared-is : (a b : ℕ) → a < rowCount log → b < rowCount log → compared (tableOf l log) a b ≡ cond (rowDominates l log a b) 1 (cond (rowDominates l log b a) 2 0)
+  -- 1 exactly where row a dominates row b
+  pub compared-dominates : (a b : ℕ) → a < rowCount log → b < rowCount log → eqb (compared (tableOf l log) a b) 1 ≡ rowDominates l log a b
   unfolding compared rowDominates dominates vectorAt
-  compared-is a b h j =
+  compared-dominates a b h j =
       let va = vectorAt l log a in
       let vb = vectorAt l log b in
       let n = levels-length l (rowAt log a) ∙ sym (levels-length l (rowAt log b)) in
-      rw (table-rows, lt-ltb a (rowCount log) h, lt-ltb b (rowCount log) j, lower-some a b h j, lower-some b a j h, none-not va vb n, none-not vb va (sym n))
+      rw (table-rows, lt-ltb a (rowCount log) h, lt-ltb b (rowCount log) j, lower-some a b h j, lower-some b a j h, none-not va vb n)
       (cases (someBelow va vb) (someBelow vb va))
     where
-      cases : (s t : Bool) → relation s t ≡ cond (not t && s) 1 (cond (not s && t) 2 0)
+      cases : (s t : Bool) → eqb (relation s t) 1 ≡ (not t && s)
       cases true true = refl
       cases true false = refl
       cases false true = refl

@@ -31,7 +31,7 @@ returns c =
     judged-drop (c .before .before .before .before .before .before .before .before .before .before .before .before .pre) v (c .if1 .taken)
 
 remove-requires : tie.Need-remove-requires
-remove-requires c κs = let v = c .before .before .before .before .before .before .before .before .scan .ensures in (omega arith, omega arith, omega arith, v .none-are (c .before .before .if1 .left))
+remove-requires c κs = let v = c .before .before .before .before .before .before .before .before .scan .ensures in (omega arith, v .few, omega arith, omega arith)
 
 put-entry-requires : tie.Need-put-entry-requires
 put-entry-requires c κs = search needs

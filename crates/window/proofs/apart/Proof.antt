@@ -1,0 +1,83 @@
+use borrow.Author.Needs.{needs}
+use native.Mathlib.Omega.{arith}
+use Prim.Native.Nat.{ℕ, _≤_, _<_, _-_, _+_, _*_}
+use mathlib.Core.Path.{_≡_}
+use mathlib.Core.Bool.{true}
+use borrow.Author.Tests.{ne-eqb}
+use borrow.Author.Count.{below-more}
+use Rattle.machine.specs.Machine.{spares}
+use Rattle.window.specs.Work.{tableDominates, entryAt, Undropped}
+use Rattle.window.proofs.Scanning.{undropped-start, undropped-more, misses, spared-by}
+use Rattle.window.proofs.apart.Statement.{statement}
+use Rattle.window.proofs.apart.Tie as tie
+
+abbrev Inv-loop : tie.InvT-loop
+Inv-loop table work held row left₀ left =
+    (left ≤ held)
+    × Undropped (tableDominates table) row work held (held - left)
+    × ((j : ℕ) → j < held - left → spares (tableDominates table) row (entryAt work j) ≡ true)
+
+abbrev μ-loop : tie.MeasureT-loop
+μ-loop table work held row left₀ left = left
+
+loop-holds : tie.Need-loop-holds Inv-loop μ-loop
+loop-holds c =
+    let a = c .before .before .args in
+    let e : a .held - a .held ≡ 0 = omega arith in
+    (omega arith, rw e (undropped-start (tableDominates (a .table .now)) (a .row) (a .work .now) (a .held)), rw e (λ j k. absurd (omega arith)))
+
+sub-at : tie.Need-sub-at Inv-loop μ-loop
+sub-at c = search needs
+
+entry-compared-requires : tie.Need-entry-compared-requires Inv-loop μ-loop
+entry-compared-requires c κs = search needs
+
+returns : tie.Need-returns Inv-loop μ-loop
+returns c =
+    let l = c .before .before .before .loop in
+    record { undropped = l .inv .1; spared = l .inv .2; next = c .before .entry-compared .ensures }
+
+sub-left : tie.Need-sub-left Inv-loop μ-loop
+sub-left c = search needs
+
+loop-less : tie.Need-loop-less Inv-loop μ-loop
+loop-less c = search needs
+
+loop-again : tie.Need-loop-again Inv-loop μ-loop
+loop-again c =
+    let l = c .before .before .before .loop in
+    let a = c .before .before .before .before .before .before .args in
+    let t = a .table .now in
+    let at = a .held - l .left in
+    let v = c .before .entry-compared .result in
+    let h : at < a .held = omega arith in
+    let seen = c .before .entry-compared .ensures h in
+    let q : v ≡ 3 = c .if1 .left in
+    let next : a .held - (l .left - 1) ≡ at + 1 = omega arith in
+    rw next (
+      omega arith,
+      undropped-more (tableDominates t) (a .row) (a .work .now) (a .held) (l .inv .1) h (misses t (a .work .now) (a .row) at v seen (λ x. omega arith)),
+      below-more (λ (j : ℕ). spares (tableDominates t) (a .row) (entryAt (a .work .now) j) ≡ true) at (l .inv .2) (spared-by t (a .work .now) (a .row) at v seen (ne-eqb v 2 (λ x. omega arith))),
+    )
+
+returns-2 : tie.Need-returns-2 Inv-loop μ-loop
+returns-2 c =
+    let l = c .before .loop in
+    let a = c .before .before .before .before .args in
+    let e : a .held - l .left ≡ a .held = omega arith in
+    record { undropped = rw e at (l .inv .1); spared = rw e at (l .inv .2); next = λ h. absurd (omega arith) }
+
+pub apart-spec : {M : Type 1} → statement M
+apart-spec =
+    tie.close
+    (tie.spec
+    Inv-loop
+    μ-loop
+    loop-holds
+    sub-at
+    entry-compared-requires
+    returns
+    sub-left
+    loop-less
+    loop-again
+    returns-2)
