@@ -47,22 +47,6 @@ module _ (dom : ℕ → ℕ → Bool) (w r : ℕ) (l m : List ℕ) (held aside c
         pushed : entries (putEntry l′ (w + aside) r (clock + 1)) w (aside + 1) ≡ entries l w aside ++ (record { row = r; timestamp = clock + 1 } ∷ [])
         pushed = entries-put l′ w aside r (clock + 1) room ∙ ap (λ (x : List Entry). x ++ (record { row = r; timestamp = clock + 1 } ∷ [])) (entries-agree l′ l w aside (λ j p t. f .rest j (omega arith)))
 
--- the release before it
-module _ (w s : ℕ) (l l′ m m′ : List ℕ) (held held′ aside clock count : ℕ) (fit : held ≤ w) (f : Filtered (younger s) l l′ held held′)
-    (e : m′ ≡ marked (keep (older s) (entries l 0 held)) m) where
-  release-is : stateOf w l′ m′ held′ aside clock count ≡ release s (stateOf w l m held aside clock count)
-  unfolding release stateOf
-  release-is = λ i. record { window = f .kept i; overflow = same i; marks = e i; clock = clock; count = count }
-    where
-      same : entries l′ w aside ≡ entries l w aside
-      same = entries-agree l′ l w aside (λ j p t. f .rest j (omega arith))
-
-  -- a read whose judgement on the lists after the release is known
-  read-is : (dom : ℕ → ℕ → Bool) (r : ℕ) (st : State) → st ≡ judge dom w r (stateOf w l′ m′ held′ aside clock count)
-      → st ≡ read dom w (record { row = r; timestamp = s }) (stateOf w l m held aside clock count)
-  unfolding read
-  read-is dom r st q = q ∙ ap (judge dom w r) release-is
-
 -- ---- the three ways of a row that is judged, each from what the engine's functions ensure
 
 module _ {dom : ℕ → ℕ → Bool} {w r size : ℕ} {l flags : List ℕ} {p : Standing} {u : Verdict}
@@ -104,50 +88,3 @@ module _ {dom : ℕ → ℕ → Bool} {w r size : ℕ} {l flags : List ℕ} {p :
         rest = λ j i. rw t (put-other l₁ (w + p .overflow) r (p .clock + 1) j (omega arith) ∙ f .rest j (omega (arith, g .fit)));
       };
     }
-
--- ---- the release, and then the judgement
-
-abbrev pub holding : ℕ → Standing → Standing
-holding held p = record { held = held; overflow = p .overflow; clock = p .clock; count = p .count }
-
-module _ {w s held size : ℕ} {l l₁ m m₁ : List ℕ} {p : Standing} (g : Ready w (length l) size p) (f : Released s l l₁ (p .held) held m m₁) where
-  pub released-ready : Ready w (length l₁) size (holding held p)
-  released-ready = record {
-    narrow = g .narrow;
-    flagged = g .flagged;
-    fit = omega (arith, f .filtered .few, g .fit);
-    few = g .few;
-    room = omega (arith, f .filtered .long, g .room);
-    early = g .early;
-    small = g .small;
-  }
-
-  pub released-read : {dom : ℕ → ℕ → Bool} {r : ℕ} {l₂ : List ℕ} {q : Standing} → Judged dom w r l₁ (holding held p) l₂ q → Read dom w (record { row = r; timestamp = s }) l m p l₂ m₁ q
-  released-read {dom} {r} {l₂} {q} j = record {
-    state = read-is w s l l₁ m m₁ (p .held) held (p .overflow) (p .clock) (p .count) (g .fit) (f .filtered) (f .marks-are) dom r (stateAt w l₂ m₁ q) (j .state m₁);
-    onward = record {
-      fit = j .onward .fit;
-      few = j .onward .few;
-      ticks = j .onward .ticks;
-      small = j .onward .small;
-      rest = λ i h. j .onward .rest i h ∙ f .filtered .rest i (omega (arith, g .fit));
-    };
-  }
-
--- ---- a row with timestamp 0 releases nothing
-
-none-older : (e : Entry) → older 0 e ≡ false
-unfolding older
-none-older e = le-ltb (e .timestamp) 0 (omega arith)
-
-keep-all : (es : List Entry) → keep (younger 0) es ≡ es
-unfolding keep younger
-keep-all [] = refl
-keep-all (x ∷ es) = rw (none-older x) (ap (λ (xs : List Entry). x ∷ xs) (keep-all es))
-
-pub unreleased : (l : List ℕ) (n : ℕ) (m : List ℕ) → Released 0 l l n n m m
-unfolding marked
-unreleased l n m = record {
-  filtered = record { few = omega arith; long = refl; kept = sym (keep-all (entries l 0 n)); rest = λ j h. refl };
-  marks-are = rw (keep-none (older 0) (entries l 0 n) (λ e k. none-older e));
-}

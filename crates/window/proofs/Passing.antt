@@ -2,12 +2,13 @@
 use Prim.Native.Nat.{ℕ, suc, _+_, _-_, _*_, _≤_, _<_}
 use native.Mathlib.Omega.{arith}
 use native.Mathlib.Nat.{add-zero}
-use mathlib.Core.Path.{_≡_, refl, sym, ap, ap₂, _∙_}
+use mathlib.Core.Path.{_≡_, refl, sym, ap, ap₂, subst, _∙_}
 use mathlib.Core.Bool.{Bool}
 use mathlib.Core.List.{List, _∷_}
 use lib.ListN.{getD, length}
+use Rattle.machine.specs.Laws.Order.{Rising, Ordered, read-ordered}
 use Rattle.machine.specs.Machine.{Entry, State, read, pass}
-use Rattle.window.specs.Work.{entryAt, entries, stateAt, Ready, Read, PassReady, Passed}
+use Rattle.window.specs.Work.{entryAt, entries, stateOf, stateAt, Ready, Read, PassReady, Passed}
 use Rattle.window.specs.declared.Standing.{Standing}
 use Rattle.window.proofs.Entries.{entries-agree}
 
@@ -17,6 +18,7 @@ pub record Passing (dom : ℕ → ℕ → Bool) (w n : ℕ) (l m : List ℕ) (p 
   pub long : length l′ ≡ length l
   pub marks : length m′ ≡ length m
   pub state : pass dom w (entries l′ (w + i) (n - i)) (stateAt w l′ m′ p′) ≡ pass dom w (entries l w n) (stateAt w l m p)
+  pub ordered : Ordered (stateAt w l′ m′ p′)
   pub fit : p′ .held ≤ w
   pub few : p′ .overflow ≤ i
   pub ticks : p′ .clock ≡ p .clock + i
@@ -30,8 +32,9 @@ waiting-step l w i n h =
     rw (e, d)
 
 module _ {dom : ℕ → ℕ → Bool} {w n flags : ℕ} {l m : List ℕ} {p : Standing} (g : PassReady w n (length l) flags p) where
-  pub passing-start : Passing dom w n l m p l m p 0
-  passing-start = record {
+  pub passing-start : Ordered (stateAt w l m p) → Passing dom w n l m p l m p 0
+  passing-start o = record {
+    ordered = o;
     within = omega arith;
     long = refl;
     marks = refl;
@@ -54,12 +57,17 @@ module _ {dom : ℕ → ℕ → Bool} {w n flags : ℕ} {l m : List ℕ} {p : St
       small = omega (arith, g .small, z .small);
     }
 
+    pub passing-rising : Rising (entries l₁ 0 (p₁ .held))
+    unfolding stateOf
+    passing-rising = z .ordered .rises
+
     pub passing-step : i < n → {r s : ℕ} → r ≡ getD l₁ (2 * (w + i)) 0 → s ≡ getD l₁ (2 * (w + i) + 1) 0
         → {l₂ m₂ : List ℕ} {p₂ : Standing} → length l₂ ≡ length l₁ → length m₂ ≡ length m₁
         → Read dom w (record { row = r; timestamp = s }) l₁ m₁ p₁ l₂ m₂ p₂ → Passing dom w n l m p l₂ m₂ p₂ (i + 1)
     unfolding pass entryAt
     passing-step h {r} {s} er es {l₂} {m₂} {p₂} long marks t = record {
       within = omega arith;
+      ordered = subst Ordered (sym (t .state)) (read-ordered dom w (record { row = r; timestamp = s }) (stateAt w l₁ m₁ p₁) (z .ordered));
       long = long ∙ z .long;
       marks = marks ∙ z .marks;
       state =
@@ -78,6 +86,7 @@ module _ {dom : ℕ → ℕ → Bool} {w n flags : ℕ} {l m : List ℕ} {p : St
     unfolding pass entries
     passing-end h = record {
       state = (let e : n - i ≡ 0 = omega arith in rw e at (z .state));
+      ordered = z .ordered;
       fit = z .fit;
       few = omega (arith, z .few, z .within);
       ticks = omega (arith, z .ticks, z .within);

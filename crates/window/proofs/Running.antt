@@ -4,10 +4,11 @@ use native.Mathlib.Omega.{arith}
 use native.Mathlib.Numerals.{add-one}
 use mathlib.Core.Path.{_≡_, refl, sym, ap, _∙_}
 use mathlib.Core.Bool.{Bool, false, cond}
-use mathlib.Core.List.{List, [], _∷_, _++_, map}
+use mathlib.Core.List.{List, [], _∷_, _++_, map, List·Memᴰ·not-nil}
 use lib.ListN.{length, replicate}
 use Rattle.laws.specs.Lists.{joined}
 use Rattle.laws.specs.Laws.Joined.{singles-length}
+use Rattle.machine.specs.Laws.Order.{Ordered}
 use Rattle.machine.specs.Machine.{Entry, State, marked, pass, passes, renew, finish, isEmpty, unread, start, machine}
 use Rattle.window.specs.Work.{allRows, entries, putEntry, stateOf, stateAt, PassReady, Passed, RunReady, Ran}
 use Rattle.window.specs.declared.Standing.{Standing}
@@ -17,6 +18,7 @@ use Rattle.window.proofs.Entries.{entries-put}
 pub record Running (dom : ℕ → ℕ → Bool) (w n fuel : ℕ) (l m l′ m′ : List ℕ) (p : Standing) (left waiting : ℕ) : Type 0 where
   pub long : length l′ ≡ length l
   pub marks : length m′ ≡ length m
+  pub ordered : Ordered (stateAt w l′ m′ p)
   pub fit : p .held ≤ w
   pub none : p .overflow ≡ 0
   pub fewer : waiting ≤ n
@@ -65,7 +67,8 @@ module _ (dom : ℕ → ℕ → Bool) (w : ℕ) where
 
 module _ {dom : ℕ → ℕ → Bool} {w n fuel flags : ℕ} {l m : List ℕ} (g : RunReady w n fuel (length l) flags) where
   pub running-start : Running dom w n fuel l m l m (record { held = 0; overflow = 0; clock = 0; count = 0 }) fuel n
-  running-start = record { long = refl; marks = refl; fit = omega arith; none = refl; fewer = omega arith; early = omega arith; small = omega arith; counts = refl; makes = refl }
+  unfolding stateOf entries
+  running-start = record { long = refl; marks = refl; ordered = record { rises = tt; given = λ e k. absurd (List·Memᴰ·not-nil k) }; fit = omega arith; none = refl; fewer = omega arith; early = omega arith; small = omega arith; counts = refl; makes = refl }
 
   module _ {l₁ m₁ : List ℕ} {p : Standing} {left waiting : ℕ} (z : Running dom w n fuel l m l₁ m₁ p left waiting) where
     pub running-ready : 0 < left → PassReady w waiting (length l₁) flags p
@@ -104,6 +107,7 @@ module _ {dom : ℕ → ℕ → Bool} {w n fuel flags : ℕ} {l m : List ℕ} (g
       running-more s long marks = record {
         long = long ∙ z .long;
         marks = marks ∙ z .marks;
+        ordered = record { rises = t .ordered .rises; given = t .ordered .given };
         fit = t .fit;
         none = refl;
         fewer = omega (arith, t .few, z .fewer);

@@ -8,6 +8,7 @@ use lib.Dec.{eqb}
 use lib.ListN.{getD, set, length}
 use Rattle.laws.specs.Lists.{passing}
 use Rattle.pareto.specs.Table.{compared}
+use Rattle.machine.specs.Laws.Order.{Ordered}
 use Rattle.machine.specs.Machine.{Entry, State, keep, marked, older, younger, dominated, compares, spares, judge, read, pass, passes}
 use Rattle.window.specs.declared.Front.{Front}
 use Rattle.window.specs.declared.Standing.{Standing}
@@ -123,6 +124,7 @@ pub record PassReady (w n size flags : ℕ) (p : Standing) : Type 0 where
 pub record Passed (dom : ℕ → ℕ → Bool) (w n : ℕ) (l m : List ℕ) (p : Standing) (l′ m′ : List ℕ) (p′ : Standing) : Type 0 where
   pub state : stateAt w l′ m′ p′ ≡ pass dom w (entries l w n) (stateAt w l m p)
   pub fit : p′ .held ≤ w
+  pub ordered : Ordered (stateAt w l′ m′ p′)
   pub few : p′ .overflow ≤ n
   pub ticks : p′ .clock ≡ p .clock + n
   pub small : p′ .count ≤ p .count + 1024 * n

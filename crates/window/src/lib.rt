@@ -7,7 +7,8 @@ ghost use mathlib.Core.List.{map};
 ghost use lib.ListN.{getD, set, length, replicate};
 ghost use Rattle.pareto.specs.Table.{compared};
 ghost use Rattle.machine.specs.Machine.{Entry, marked, unread, machine};
-ghost use Rattle.window.specs.Work.{tableDominates, allRows, entries, putEntry, Filtered, Released, Flags, Fronted, Scanned, Ready, Judged, Read, PassReady, Passed, RunReady, Ran};
+ghost use Rattle.machine.specs.Laws.Order.{Rising, Ordered};
+ghost use Rattle.window.specs.Work.{tableDominates, allRows, entries, putEntry, stateAt, Filtered, Released, Flags, Fronted, Scanned, Ready, Judged, Read, PassReady, Passed, RunReady, Ran};
 
 // ---- the lent lists: a place past the end reads as 0, and a store there does nothing
 
@@ -144,12 +145,12 @@ fn remove(flags: &[u8], work: &mut [u32], from: usize, held: usize) -> usize
     m
 }
 
-// Releases the entries with a timestamp below s: their rows are marked. How many stay comes back.
+// Releases the entries with a timestamp below s: their rows are marked. How many stay comes back. The first entry has the smallest timestamp.
 fn release(work: &mut [u32], held: usize, s: u32, marks: &mut [u8]) -> usize
-    requires { ⌜ (held ≤ 1024) × (2 * held ≤ length (now work)) ⌝ }
+    requires { ⌜ (held ≤ 1024) × (2 * held ≤ length (now work)) × Rising (entries (now work) 0 held) ⌝ }
     ensures { λ m. ⌜ Released s (now (work .entry)) (now (work .exit)) held m (now (marks .entry)) (now (marks .exit)) ⌝ }
 {
-    if s == 0 {
+    if s <= word(work, 1) {
         return held;
     }
     let mut i: usize = 0;
@@ -229,7 +230,7 @@ fn read_row(
     row: u32,
     timestamp: u32,
 ) -> Standing
-    requires { ⌜ Ready w (length (now work)) (length (now flags)) p ⌝ }
+    requires { ⌜ Ready w (length (now work)) (length (now flags)) p × Rising (entries (now work) 0 (p .held)) ⌝ }
     ensures { λ q. ⌜ Read (tableDominates (now (table .entry))) w (record { row = row; timestamp = timestamp }) (now (work .entry)) (now (marks .entry)) p (now (work .exit)) (now (marks .exit)) q ⌝ }
 {
     let held = release(work, p.held, timestamp, marks);
@@ -254,7 +255,7 @@ fn one_pass(
     flags: &mut [u8],
     p: Standing,
 ) -> Standing
-    requires { ⌜ PassReady w n (length (now work)) (length (now flags)) p ⌝ }
+    requires { ⌜ PassReady w n (length (now work)) (length (now flags)) p × Ordered (stateAt w (now work) (now marks) p) ⌝ }
     ensures { λ q. ⌜ Passed (tableDominates (now (table .entry))) w n (now (work .entry)) (now (marks .entry)) p (now (work .exit)) (now (marks .exit)) q ⌝ }
 {
     let mut q = p;

@@ -24,7 +24,7 @@ loop-holds c = (refl, running-start (c .before .before .before .before .pre))
 one-pass-requires : tie.Need-one-pass-requires Inv-loop μ-loop
 one-pass-requires c κs =
     let l = c .before .before .before .before .loop .inv in
-    rw (l .0) (running-ready (c .before .before .before .before .before .before .before .before .before .pre) (l .1) (c .before .before .before .loop-test .taken))
+    (rw (l .0) (running-ready (c .before .before .before .before .before .before .before .before .before .pre) (l .1) (c .before .before .before .loop-test .taken)), l .1 .ordered)
 
 release-all-requires : tie.Need-release-all-requires Inv-loop μ-loop
 release-all-requires c κs = let o = c .before .before .before .before .before .before .before .before .before in omega (arith, o .one-pass .ensures .fit, o .before .before .before .before .before .before .before .before .before .before .pre .narrow)

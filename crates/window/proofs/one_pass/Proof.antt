@@ -1,6 +1,6 @@
 use mathlib.Core.Path.{refl, _∙_, _≡_}
 use Rattle.window.specs.Work.{tableDominates}
-use Rattle.window.proofs.Passing.{Passing, passing-start, passing-ready, passing-step, passing-end}
+use Rattle.window.proofs.Passing.{Passing, passing-start, passing-ready, passing-rising, passing-step, passing-end}
 use borrow.Author.Needs.{needs}
 use Prim.Native.Nat.{_-_}
 use lib.ListN.{length}
@@ -15,7 +15,7 @@ abbrev μ-loop : tie.MeasureT-loop
 μ-loop table w n work₀ marks₀ flags₀ q₀ i₀ work marks flags q i = n - i
 
 loop-holds : tie.Need-loop-holds Inv-loop μ-loop
-loop-holds c = (refl, passing-start (c .before .before .before .before .pre))
+loop-holds c = let g = c .before .before .before .before .pre in (refl, passing-start (g .0) (g .1))
 
 add-word : tie.Need-add-word Inv-loop μ-loop
 add-word c = search needs
@@ -42,7 +42,8 @@ read-row-requires : tie.Need-read-row-requires Inv-loop μ-loop
 read-row-requires c κs =
     let t = c .before .before .before .before .before .before .before in
     let l = t .before .loop .inv in
-    rw (l .0) (passing-ready (t .before .before .before .before .before .before .pre) (l .1) (t .loop-test .taken))
+    let g = t .before .before .before .before .before .before .pre .0 in
+    (rw (l .0) (passing-ready g (l .1) (t .loop-test .taken)), passing-rising g (l .1))
 
 add-i : tie.Need-add-i Inv-loop μ-loop
 add-i c = search needs
@@ -58,7 +59,7 @@ loop-again c =
     let t = d .before .before .before .before in
     let l = t .before .loop .inv in (
       r .kept .1 .1 .1 .1 .0 ∙ l .0,
-      passing-step (t .before .before .before .before .before .before .pre) (l .1) (t .loop-test .taken) (d .before .before .word .ensures) (d .word2 .ensures) (r .kept .1 .1 .0) (r .kept .1 .1 .1 .0) (r .ensures),
+      passing-step (t .before .before .before .before .before .before .pre .0) (l .1) (t .loop-test .taken) (d .before .before .word .ensures) (d .word2 .ensures) (r .kept .1 .1 .0) (r .kept .1 .1 .1 .0) (r .ensures),
     )
 
 same-length : tie.Need-same-length Inv-loop μ-loop
@@ -71,7 +72,7 @@ same-length-3 : tie.Need-same-length-3 Inv-loop μ-loop
 same-length-3 c = search needs
 
 returns : tie.Need-returns Inv-loop μ-loop
-returns c = passing-end (c .before .before .before .before .before .before .pre) (c .before .loop .inv .1) (c .loop-test .left)
+returns c = passing-end (c .before .before .before .before .before .before .pre .0) (c .before .loop .inv .1) (c .loop-test .left)
 
 pub one-pass-spec : {M : Type 1} → statement M
 one-pass-spec =

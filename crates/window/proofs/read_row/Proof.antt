@@ -1,4 +1,4 @@
-use Rattle.window.proofs.Judging.{released-ready, released-read}
+use Rattle.window.proofs.Releasing.{released-ready, released-read}
 use borrow.Author.Needs.{needs}
 use Prim.Native.Nat.{_-_}
 use Rattle.window.proofs.read_row.Statement.{statement}
@@ -8,7 +8,7 @@ release-requires : tie.Need-release-requires
 release-requires c κs = search needs
 
 judge-requires : tie.Need-judge-requires
-judge-requires c κs = let r = c .before .before .before .before .before .before in released-ready (r .before .before .before .before .before .before .before .pre) (r .release .ensures)
+judge-requires c κs = let r = c .before .before .before .before .before .before in released-ready (r .before .before .before .before .before .before .before .pre .0) (r .release .ensures)
 
 same-length : tie.Need-same-length
 same-length c = search needs
@@ -23,7 +23,7 @@ returns : tie.Need-returns
 returns c =
     let j = c .before .before .before .before in
     let r = j .before .before .before .before .before .before .before in
-    released-read (r .before .before .before .before .before .before .before .pre) (r .release .ensures) (j .judge .ensures)
+    released-read (r .before .before .before .before .before .before .before .pre .0) (r .release .ensures) (j .judge .ensures)
 
 pub read-row-spec : {M : Type 1} → statement M
 read-row-spec =

@@ -6,7 +6,7 @@ use lib.ListN.{length-set, length}
 use borrow.Author.Tests.{lt-ltb, le-ltb}
 use Rattle.machine.specs.Machine.{keep, marked, older, younger}
 use Rattle.window.specs.Work.{entries}
-use Rattle.window.proofs.Judging.{unreleased}
+use Rattle.window.proofs.Releasing.{unreleased}
 use Rattle.window.proofs.Packed.{Packed, pack-start, read-is, skip-read, keep-read, pack-filtered, mark-read, leave-read, mark-end}
 use borrow.Author.Needs.{needs}
 use native.Mathlib.Omega.{arith}
@@ -23,20 +23,28 @@ Inv-loop work₀ held s marks₀ i₀ m₀ work marks i m =
 abbrev μ-loop : tie.MeasureT-loop
 μ-loop work₀ held s marks₀ i₀ m₀ work marks i m = held - i
 
+word-requires : tie.Need-word-requires Inv-loop μ-loop
+word-requires c κs = search needs
+
+same-length : tie.Need-same-length Inv-loop μ-loop
+same-length c = refl
+
 returns : tie.Need-returns Inv-loop μ-loop
-returns c = let a = c .before .before .before .args in rw (c .if1 .taken) (unreleased (a .work .now) (a .held) (a .marks .now))
+returns c =
+    let b = c .before .before .before .before .before in
+    unreleased (b .args .work .now) (b .args .held) (b .args .marks .now) (b .args .s) (b .pre .2) (omega (arith, c .before .word .ensures, c .if1 .taken))
 
 loop-holds : tie.Need-loop-holds Inv-loop μ-loop
 loop-holds c =
-    let a = c .before .before .before .args in
+    let a = c .before .before .before .before .before .args in
     let e : a .held - 0 ≡ a .held = omega arith in
     (pack-start (younger (a .s)) (a .work .now) (a .held), refl, rw e)
 
 mul-word : tie.Need-mul-word Inv-loop μ-loop
 mul-word c = search needs
 
-word-requires : tie.Need-word-requires Inv-loop μ-loop
-word-requires c κs = search needs
+word-requires-2 : tie.Need-word-requires-2 Inv-loop μ-loop
+word-requires-2 c κs = search needs
 
 mul-word-2 : tie.Need-mul-word-2 Inv-loop μ-loop
 mul-word-2 c = search needs
@@ -44,8 +52,8 @@ mul-word-2 c = search needs
 add-word : tie.Need-add-word Inv-loop μ-loop
 add-word c = search needs
 
-word-requires-2 : tie.Need-word-requires-2 Inv-loop μ-loop
-word-requires-2 c κs = search needs
+word-requires-3 : tie.Need-word-requires-3 Inv-loop μ-loop
+word-requires-3 c κs = search needs
 
 cast-mark : tie.Need-cast-mark Inv-loop μ-loop
 cast-mark c = search needs
@@ -69,12 +77,12 @@ loop-again : tie.Need-loop-again Inv-loop μ-loop
 unfolding older younger
 loop-again c =
     let l = c .before .before .before .before .before .before .loop in
-    let a = c .before .before .before .before .before .before .before .before .before .before .args in
+    let a = c .before .before .before .before .before .before .before .before .before .before .before .before .args in
     let h : l .i < a .held = omega arith in
-    let r = c .before .before .before .word .result in
-    let t = c .before .word2 .result in
-    let row = c .before .before .before .word .ensures in
-    let timestamp = c .before .word2 .ensures in
+    let r = c .before .before .before .word2 .result in
+    let t = c .before .word3 .result in
+    let row = c .before .before .before .word2 .ensures in
+    let timestamp = c .before .word3 .ensures in
     let e = read-is (younger (a .s)) (a .work .now) (a .held) h (l .inv .0) r t row timestamp in
     ⊎-elim
     (λ w. let o : ltb t (a .s) ≡ true = lt-ltb t (a .s) (w .0 .taken) in rw (w .5, w .6 ∙ w .2 .ensures, w .7) (
@@ -89,16 +97,16 @@ loop-again c =
     ))
     (c .if2 .came)
 
-same-length : tie.Need-same-length Inv-loop μ-loop
-same-length c = c .before .loop .inv .0 .long
-
 same-length-2 : tie.Need-same-length-2 Inv-loop μ-loop
-same-length-2 c = c .before .loop .inv .1
+same-length-2 c = c .before .loop .inv .0 .long
+
+same-length-3 : tie.Need-same-length-3 Inv-loop μ-loop
+same-length-3 c = c .before .loop .inv .1
 
 returns-2 : tie.Need-returns-2 Inv-loop μ-loop
 returns-2 c =
     let l = c .before .loop in
-    let a = c .before .before .before .before .before .args in
+    let a = c .before .before .before .before .before .before .before .args in
     record {
       filtered = pack-filtered (younger (a .s)) (a .work .now) (l .work) (a .held) (l .i) (l .m) (omega arith) (l .inv .0);
       marks-are = sym (mark-end (older (a .s)) (a .work .now) (a .held) (l .i) (l .marks) (omega arith)) ∙ l .inv .2;
@@ -110,13 +118,15 @@ release-spec =
     (tie.spec
     Inv-loop
     μ-loop
+    word-requires
+    same-length
     returns
     loop-holds
     mul-word
-    word-requires
+    word-requires-2
     mul-word-2
     add-word
-    word-requires-2
+    word-requires-3
     cast-mark
     mark-requires
     put-entry-requires
@@ -124,6 +134,6 @@ release-spec =
     add-i
     loop-less
     loop-again
-    same-length
     same-length-2
+    same-length-3
     returns-2)
