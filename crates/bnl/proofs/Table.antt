@@ -12,7 +12,8 @@ use Rattle.preference.specs.declared.PreferenceList.{PreferenceList}
 use Rattle.pareto.specs.Table.{tableEntry, tableOf}
 use Rattle.machine.specs.Machine.{machine}
 use Rattle.bnl.specs.Engine.{machineOf}
-use Rattle.window.specs.Work.{tableDominates, allRows}
+use Rattle.window.specs.Work.{tableDominates}
+use Rattle.passes.specs.Passes.{allRows}
 use Rattle.bnl.specs.Laws.Accepted.{Accepted}
 use Rattle.bnl.specs.Laws.Marks.{machine-table}
 

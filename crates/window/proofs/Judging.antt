@@ -7,12 +7,11 @@ use mathlib.Core.List.{List, [], _∷_, _++_}
 use lib.ListN.{length}
 use borrow.Author.Tests.{lt-ltb, le-ltb}
 use Rattle.machine.specs.Laws.Ends.{compares-le}
-use Rattle.machine.specs.Laws.Lists.{keep-none}
-use Rattle.machine.specs.Machine.{Entry, State, keep, marked, older, younger, release, dominated, compares, spares, tick, remove, enter, setAside, place, judge, read}
-use Rattle.window.specs.Work.{entries, putEntry, stateOf, stateAt, Filtered, Released, Scanned, Ready, Judged, Read}
+use Rattle.machine.specs.Machine.{Entry, dominated, compares, spares, tick, remove, enter, setAside, place, judge, read}
+use Rattle.window.specs.Work.{entries, putEntry, stateOf, Filtered, Scanned, Ready, Judged}
 use Rattle.window.specs.declared.Standing.{Standing}
 use Rattle.window.specs.declared.Verdict.{Verdict}
-use Rattle.window.proofs.Entries.{length-entries, entries-agree, entries-put, entries-put0, put-other}
+use Rattle.window.specs.Laws.Entries.{length-entries, entries-agree, entries-put, entries-put0, put-other}
 
 compares-held : (dom : ℕ → ℕ → Bool) (r : ℕ) (l : List ℕ) (i n : ℕ) → compares dom r (entries l i n) ≤ n
 compares-held dom r l i n = omega (arith, compares-le dom r (entries l i n), length-entries l i n)

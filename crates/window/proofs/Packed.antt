@@ -9,7 +9,7 @@ use mathlib.Core.List.{List, [], _∷_, _++_, append-nil, append-assoc}
 use lib.ListN.{getD, set, length}
 use Rattle.machine.specs.Machine.{Entry, keep, marked}
 use Rattle.window.specs.Work.{entryAt, entries, putEntry, Filtered}
-use Rattle.window.proofs.Entries.{entries-step, entries-done, entries-snoc, length-put, put-other, entries-put0}
+use Rattle.window.specs.Laws.Entries.{entries-step, entries-done, entries-snoc, length-put, put-other, entries-put0}
 
 -- l is l₀ with its first i of n entries packed by the test p: m of them stay
 pub record Packed (p : Entry → Bool) (l₀ l : List ℕ) (n i m : ℕ) : Type 0 where
@@ -104,18 +104,9 @@ module _ (p : Entry → Bool) (l : List ℕ) (n i : ℕ) (m : List ℕ) (h : i <
   pub leave-read : (e : Entry) → e ≡ entryAt l i → p e ≡ false → marked (keep p (entries l i (n - i))) m ≡ marked (keep p (entries l (i + 1) (n - (i + 1)))) m
   leave-read e q t = mark-no (ap p (sym q) ∙ t)
 
-  -- the same with no test
-  pub mark-one : marked (entries l i (n - i)) m ≡ marked (entries l (i + 1) (n - (i + 1))) (set m (getD l (2 * i) 0) 1)
-  unfolding marked entryAt
-  mark-one = rw (entries-step l i n h)
-
 pub mark-end : (p : Entry → Bool) (l : List ℕ) (n i : ℕ) (m : List ℕ) → n ≤ i → marked (keep p (entries l i (n - i))) m ≡ m
 unfolding marked keep
 mark-end p l n i m h = rw (entries-done l i n h)
 
 pub pack-filtered : (p : Entry → Bool) (l₀ l : List ℕ) (n i m : ℕ) → n ≤ i → Packed p l₀ l n i m → Filtered p l₀ l n m
 pack-filtered p l₀ l n i m h z = record { few = omega (arith, z .ordered, z .within); long = z .long; kept = pack-end p l₀ n h z; rest = λ j k. z .rest j (omega (arith, z .within)) }
-
-pub mark-all-end : (l : List ℕ) (n i : ℕ) (m : List ℕ) → n ≤ i → marked (entries l i (n - i)) m ≡ m
-unfolding marked
-mark-all-end l n i m h = rw (entries-done l i n h)

@@ -1,5 +1,5 @@
 -- The release before a row is judged, on the lists that hold the machine's state.
-use Prim.Native.Nat.{ℕ, zero, suc, _+_, _*_, _≤_, _<_}
+use Prim.Native.Nat.{ℕ, zero, suc, _≤_}
 use native.Mathlib.Omega.{arith}
 use mathlib.Core.Path.{_≡_, refl, sym, ap, _∙_}
 use mathlib.Core.Bool.{Bool, true, false, not}
@@ -12,7 +12,7 @@ use Rattle.machine.specs.Laws.Order.{Rising}
 use Rattle.machine.specs.Machine.{Entry, State, keep, marked, older, younger, release, judge, read}
 use Rattle.window.specs.Work.{entryAt, entries, stateOf, stateAt, Filtered, Released, Ready, Judged, Read}
 use Rattle.window.specs.declared.Standing.{Standing}
-use Rattle.window.proofs.Entries.{entries-agree}
+use Rattle.window.specs.Laws.Entries.{entries-agree}
 
 -- the release before it
 module _ (w s : ℕ) (l l′ m m′ : List ℕ) (held held′ aside clock count : ℕ) (fit : held ≤ w) (f : Filtered (younger s) l l′ held held′)

@@ -1,5 +1,5 @@
 -- A row compared with the entries in order, and the flags that this leaves.
-use Prim.Native.Nat.{ℕ, suc, _+_, _-_, _*_, _/_, _≤_, _<_}
+use Prim.Native.Nat.{ℕ, _+_, _-_, _*_, _/_, _≤_, _<_}
 use native.Mathlib.Omega.{arith}
 use native.Mathlib.Decide.{ℕ-discrete}
 use mathlib.Core.Path.{_≡_, refl, sym, _∙_}
@@ -17,7 +17,7 @@ use Rattle.pareto.specs.Table.{compared, relation, lower}
 use Rattle.machine.specs.Machine.{Entry, dominated, compares, spares}
 use Rattle.window.specs.Work.{tableDominates, entryAt, entries, Undropped, Fronted, Scanned}
 use Rattle.window.specs.declared.Front.{Front}
-use Rattle.window.proofs.Entries.{entries-step, entries-done}
+use Rattle.window.specs.Laws.Entries.{entries-step, entries-done}
 
 -- one compare tells both ways
 turned : (p q first second : Bool) → eqb (cond (p && q) (relation first second) 0) 2 ≡ eqb (cond (q && p) (relation second first) 0) 1

@@ -6,10 +6,8 @@ use mathlib.Core.Bool.{Bool, true, false, not}
 use mathlib.Core.List.{List, [], _∷_}
 use lib.Dec.{eqb}
 use lib.ListN.{getD, set, length}
-use Rattle.laws.specs.Lists.{passing}
 use Rattle.pareto.specs.Table.{compared}
-use Rattle.machine.specs.Laws.Order.{Ordered}
-use Rattle.machine.specs.Machine.{Entry, State, keep, marked, older, younger, dominated, compares, spares, judge, read, pass, passes}
+use Rattle.machine.specs.Machine.{Entry, State, keep, marked, older, younger, dominated, compares, spares, judge, read}
 use Rattle.window.specs.declared.Front.{Front}
 use Rattle.window.specs.declared.Standing.{Standing}
 use Rattle.window.specs.declared.Verdict.{Verdict}
@@ -17,10 +15,6 @@ use Rattle.window.specs.declared.Verdict.{Verdict}
 -- row a of a level table dominates row b
 unfoldable pub tableDominates : List ℕ → ℕ → ℕ → Bool
 tableDominates table a b = eqb (compared table a b) 1
-
--- all rows below n
-abbrev pub allRows : ℕ → List ℕ
-allRows n = passing (λ r. true) n
 
 -- ---- entries
 
@@ -108,36 +102,3 @@ pub record Judged (dom : ℕ → ℕ → Bool) (w r : ℕ) (l : List ℕ) (p : S
 pub record Read (dom : ℕ → ℕ → Bool) (w : ℕ) (x : Entry) (l m : List ℕ) (p : Standing) (l′ m′ : List ℕ) (p′ : Standing) : Type 0 where
   pub state : stateAt w l′ m′ p′ ≡ read dom w x (stateAt w l m p)
   pub onward : Onward w l p l′ p′
-
--- a pass over the n entries that wait may begin
-pub record PassReady (w n size flags : ℕ) (p : Standing) : Type 0 where
-  pub narrow : w ≤ 1024
-  pub flagged : w ≤ flags
-  pub rows : n ≤ 1024
-  pub fit : p .held ≤ w
-  pub none : p .overflow ≡ 0
-  pub room : 2 * (w + n) ≤ size
-  pub early : p .clock + n < 2000000000
-  pub small : p .count + 1024 * n < 1000000000000000
-
--- the n entries that waited were read
-pub record Passed (dom : ℕ → ℕ → Bool) (w n : ℕ) (l m : List ℕ) (p : Standing) (l′ m′ : List ℕ) (p′ : Standing) : Type 0 where
-  pub state : stateAt w l′ m′ p′ ≡ pass dom w (entries l w n) (stateAt w l m p)
-  pub fit : p′ .held ≤ w
-  pub ordered : Ordered (stateAt w l′ m′ p′)
-  pub few : p′ .overflow ≤ n
-  pub ticks : p′ .clock ≡ p .clock + n
-  pub small : p′ .count ≤ p .count + 1024 * n
-
--- the passes may begin
-pub record RunReady (w n fuel size flags : ℕ) : Type 0 where
-  pub narrow : w ≤ 1024
-  pub flagged : w ≤ flags
-  pub rows : n ≤ 1024
-  pub turns : fuel ≤ 1048577
-  pub room : 2 * (w + n) ≤ size
-
--- the passes were made, from a standing of zeros
-pub record Ran (dom : ℕ → ℕ → Bool) (w n fuel : ℕ) (l m m′ : List ℕ) (count : ℕ) : Type 0 where
-  pub count-is : count ≡ passes dom w fuel (entries l w n) (stateOf w l m 0 0 0 0) .count
-  pub marks-are : m′ ≡ passes dom w fuel (entries l w n) (stateOf w l m 0 0 0 0) .marks

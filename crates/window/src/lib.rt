@@ -1,18 +1,17 @@
-// The window machine on the rows of a level table, in a lent work list. A part of the window engine, and no call open to others: `bnl` meets
-// what its calls require.
+// One row of a level table read by the window machine, whose state is in a lent work list. A part of the window engine, and no call open to
+// others: `passes` meets what its calls require.
 ghost use mathlib.Core.Path.{_≡_};
 ghost use Prim.Native.Nat.{ℕ, _+_, _*_, _<_, _≤_};
 ghost use mathlib.Core.Bool.{Bool};
-ghost use mathlib.Core.List.{map};
-ghost use lib.ListN.{getD, set, length, replicate};
+ghost use lib.ListN.{getD, set, length};
 ghost use Rattle.pareto.specs.Table.{compared};
-ghost use Rattle.machine.specs.Machine.{Entry, marked, unread, machine};
-ghost use Rattle.machine.specs.Laws.Order.{Rising, Ordered};
-ghost use Rattle.window.specs.Work.{tableDominates, allRows, entries, putEntry, stateAt, Filtered, Released, Flags, Fronted, Scanned, Ready, Judged, Read, PassReady, Passed, RunReady, Ran};
+ghost use Rattle.machine.specs.Machine.{Entry};
+ghost use Rattle.machine.specs.Laws.Order.{Rising};
+ghost use Rattle.window.specs.Work.{tableDominates, entries, putEntry, Filtered, Released, Flags, Fronted, Scanned, Ready, Judged, Read};
 
 // ---- the lent lists: a place past the end reads as 0, and a store there does nothing
 
-fn word(work: &[u32], i: usize) -> u32
+pub fn word(work: &[u32], i: usize) -> u32
     ensures { λ n. ⌜ n ≡ getD (now (work .entry)) i 0 ⌝ }
 {
     if i < work.len() { work[i] } else { 0 }
@@ -26,7 +25,7 @@ fn store(work: &mut [u32], i: usize, n: u32)
     }
 }
 
-fn put_entry(work: &mut [u32], i: usize, row: u32, timestamp: u32)
+pub fn put_entry(work: &mut [u32], i: usize, row: u32, timestamp: u32)
     requires { ⌜ i ≤ 4096 ⌝ }
     ensures { λ _. ⌜ now (work .exit) ≡ putEntry (now (work .entry)) i row timestamp ⌝ }
 {
@@ -34,7 +33,7 @@ fn put_entry(work: &mut [u32], i: usize, row: u32, timestamp: u32)
     store(work, 2 * i + 1, timestamp);
 }
 
-fn mark(marks: &mut [u8], row: usize)
+pub fn mark(marks: &mut [u8], row: usize)
     ensures { λ _. ⌜ now (marks .exit) ≡ set (now (marks .entry)) row 1 ⌝ }
 {
     if row < marks.len() {
@@ -220,7 +219,7 @@ fn judge(
     }
 }
 
-fn read_row(
+pub fn read_row(
     table: &[u16],
     w: usize,
     work: &mut [u32],
@@ -241,118 +240,4 @@ fn read_row(
         count: p.count,
     };
     judge(table, w, work, flags, q, row)
-}
-
-// ---- passes
-
-// Reads the n entries that wait.
-fn one_pass(
-    table: &[u16],
-    w: usize,
-    n: usize,
-    work: &mut [u32],
-    marks: &mut [u8],
-    flags: &mut [u8],
-    p: Standing,
-) -> Standing
-    requires { ⌜ PassReady w n (length (now work)) (length (now flags)) p × Ordered (stateAt w (now work) (now marks) p) ⌝ }
-    ensures { λ q. ⌜ Passed (tableDominates (now (table .entry))) w n (now (work .entry)) (now (marks .entry)) p (now (work .exit)) (now (marks .exit)) q ⌝ }
-{
-    let mut q = p;
-    let mut i: usize = 0;
-    while i < n {
-        let row = word(work, 2 * (w + i));
-        let timestamp = word(work, 2 * (w + i) + 1);
-        q = read_row(table, w, work, marks, flags, q, row, timestamp);
-        i += 1;
-    }
-    q
-}
-
-// Releases the whole window.
-fn release_all(work: &[u32], held: usize, marks: &mut [u8])
-    requires { ⌜ held ≤ 1024 ⌝ }
-    ensures { λ _. ⌜ now (marks .exit) ≡ marked (entries (now (work .entry)) 0 held) (now (marks .entry)) ⌝ }
-{
-    let mut i: usize = 0;
-    while i < held {
-        mark(marks, word(work, 2 * i) as usize);
-        i += 1;
-    }
-}
-
-// Passes, at most `fuel`, until one sets nothing aside. What a pass set aside stands where the next one reads.
-fn all_passes(
-    table: &[u16],
-    w: usize,
-    n: usize,
-    fuel: usize,
-    work: &mut [u32],
-    marks: &mut [u8],
-    flags: &mut [u8],
-) -> usize
-    requires { ⌜ RunReady w n fuel (length (now work)) (length (now flags)) ⌝ }
-    ensures { λ c. ⌜ Ran (tableDominates (now (table .entry))) w n fuel (now (work .entry)) (now (marks .entry)) (now (marks .exit)) c ⌝ }
-{
-    let mut p = Standing {
-        held: 0,
-        overflow: 0,
-        clock: 0,
-        count: 0,
-    };
-    let mut left = fuel;
-    let mut waiting = n;
-    while 0 < left {
-        let q = one_pass(table, w, waiting, work, marks, flags, p);
-        let held = q.held;
-        let overflow = q.overflow;
-        if overflow == 0 {
-            release_all(work, held, marks);
-            return q.count;
-        }
-        waiting = overflow;
-        p = Standing {
-            held,
-            overflow: 0,
-            clock: q.clock,
-            count: q.count,
-        };
-        left -= 1;
-    }
-    p.count
-}
-
-// ---- the machine on a table
-
-fn clear(marks: &mut [u8])
-    ensures { λ _. ⌜ now (marks .exit) ≡ replicate (length (now (marks .entry))) 0 ⌝ }
-{
-    let mut i: usize = 0;
-    while i < marks.len() {
-        marks[i] = 0;
-        i += 1;
-    }
-}
-
-// The rows below n wait, from entry w on.
-fn fill_rows(work: &mut [u32], w: usize, n: usize)
-    requires { ⌜ (w ≤ 1024) × (n ≤ 1024) × (2 * (w + n) ≤ length (now work)) ⌝ }
-    ensures { λ _. ⌜ entries (now (work .exit)) w n ≡ map unread (allRows n) ⌝ }
-{
-    let mut i: usize = 0;
-    while i < n {
-        put_entry(work, w + i, i as u32, 0);
-        i += 1;
-    }
-}
-
-// The machine on the n rows of a table, in marks as many; the compares made come back.
-pub fn run_table(table: &[u16], n: usize, w: usize, marks: &mut [u8], work: &mut [u32]) -> usize
-    requires { ⌜ (n ≤ 1024) × (w ≤ 1024) × (2 * (w + n) ≤ length (now work)) × (length (now marks) ≡ n) ⌝ }
-    ensures { λ c. ⌜ (c ≡ machine (tableDominates (now (table .entry))) w (allRows n) n .count) × (now (marks .exit) ≡ machine (tableDominates (now (table .entry))) w (allRows n) n .marks) ⌝ }
-{
-    clear(marks);
-    fill_rows(work, w, n);
-    let mut flags = [0u8; 1024];
-    all_passes(table, w, n, n * n + 1, work, marks, &mut flags)
 }

@@ -28,7 +28,8 @@ use Rattle.machine.specs.Laws.Agree.{machine-agree}
 use Rattle.machine.specs.Laws.Ends.{count-bound}
 use Rattle.machine.specs.Laws.Marks.{undominated, machine-marks}
 use Rattle.bnl.specs.Engine.{machineOf}
-use Rattle.window.specs.Work.{tableDominates, allRows}
+use Rattle.window.specs.Work.{tableDominates}
+use Rattle.passes.specs.Passes.{allRows}
 
 rows-below : (n r : ℕ) → List·Memᴰ r (allRows n) → r < n
 unfolding joined

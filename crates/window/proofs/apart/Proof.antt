@@ -1,6 +1,6 @@
 use borrow.Author.Needs.{needs}
 use native.Mathlib.Omega.{arith}
-use Prim.Native.Nat.{ℕ, _≤_, _<_, _-_, _+_, _*_}
+use Prim.Native.Nat.{ℕ, _≤_, _<_, _-_, _+_}
 use mathlib.Core.Path.{_≡_}
 use mathlib.Core.Bool.{true}
 use borrow.Author.Tests.{ne-eqb}

@@ -1,5 +1,5 @@
 use native.Mathlib.Omega.{arith}
-use Prim.Native.Nat.{_*_, _-_}
+use Prim.Native.Nat.{_*_}
 use borrow.Author.Needs.{needs}
 use Rattle.window.proofs.entry_compared.Statement.{statement}
 use Rattle.window.proofs.entry_compared.Tie as tie

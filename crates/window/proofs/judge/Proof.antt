@@ -3,7 +3,6 @@ use Rattle.machine.specs.Machine.{spares}
 use Rattle.window.specs.Work.{tableDominates}
 use borrow.Author.Needs.{needs}
 use native.Mathlib.Omega.{arith}
-use Prim.Native.Nat.{_-_}
 use Rattle.window.proofs.judge.Statement.{statement}
 use Rattle.window.proofs.judge.Tie as tie
 

@@ -1,7 +1,6 @@
 use lib.Seq.{set-out}
 use mathlib.Core.Path.{sym}
 use borrow.Author.Needs.{needs}
-use Prim.Native.Nat.{_-_}
 use Rattle.window.proofs.mark.Statement.{statement}
 use Rattle.window.proofs.mark.Tie as tie
 

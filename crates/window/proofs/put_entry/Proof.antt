@@ -3,7 +3,7 @@ use mathlib.Core.List.{List}
 use lib.ListN.{set}
 use Rattle.window.specs.Work.{putEntry}
 use borrow.Author.Needs.{needs}
-use Prim.Native.Nat.{ℕ, _-_, _+_, _*_}
+use Prim.Native.Nat.{ℕ, _+_, _*_}
 use Rattle.window.proofs.put_entry.Statement.{statement}
 use Rattle.window.proofs.put_entry.Tie as tie
 

@@ -1,6 +1,5 @@
 use Rattle.window.proofs.Releasing.{released-ready, released-read}
 use borrow.Author.Needs.{needs}
-use Prim.Native.Nat.{_-_}
 use Rattle.window.proofs.read_row.Statement.{statement}
 use Rattle.window.proofs.read_row.Tie as tie
 

@@ -8,7 +8,7 @@ use lib.ListN.{length}
 use borrow.Author.Tests.{eq-eqb, ne-eqb, not-true, not-false}
 use Rattle.machine.specs.Machine.{Entry}
 use Rattle.window.specs.Work.{entryAt, Flags}
-use Rattle.window.proofs.Entries.{length-put}
+use Rattle.window.specs.Laws.Entries.{length-put}
 use Rattle.window.proofs.Packed.{Packed, pack-from, read-is, skip-read, keep-read, pack-filtered}
 use Rattle.window.proofs.remove.Statement.{statement}
 use Rattle.window.proofs.remove.Tie as tie

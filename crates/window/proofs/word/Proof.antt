@@ -1,7 +1,6 @@
 use lib.ListN.{List·getD-eq-default}
 use mathlib.Core.Path.{sym}
 use borrow.Author.Needs.{needs}
-use Prim.Native.Nat.{_-_}
 use Rattle.window.proofs.word.Statement.{statement}
 use Rattle.window.proofs.word.Tie as tie
 

@@ -1,12 +1,12 @@
 use mathlib.Core.Path.{ap, _∙_}
 use lib.ListN.{replicate}
 use native.Mathlib.Nat.{mul-le-mul}
-use Rattle.window.proofs.Running.{ran-count, ran-marks}
+use Rattle.passes.proofs.Running.{ran-count, ran-marks}
 use borrow.Author.Needs.{needs}
 use native.Mathlib.Omega.{arith}
-use Prim.Native.Nat.{ℕ, _-_}
-use Rattle.window.proofs.run_table.Statement.{statement}
-use Rattle.window.proofs.run_table.Tie as tie
+use Prim.Native.Nat.{ℕ}
+use Rattle.passes.proofs.run_table.Statement.{statement}
+use Rattle.passes.proofs.run_table.Tie as tie
 
 clear-requires : tie.Need-clear-requires
 clear-requires c κs = search needs

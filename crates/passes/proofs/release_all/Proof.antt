@@ -1,14 +1,13 @@
 use mathlib.Core.Path.{refl, sym, ap, _∙_, _≡_}
-use mathlib.Core.Bool.{true}
 use lib.ListN.{getD, set, length-set, length}
 use Rattle.machine.specs.Machine.{marked}
 use Rattle.window.specs.Work.{entries}
-use Rattle.window.proofs.Packed.{mark-one, mark-all-end}
+use Rattle.window.specs.Laws.Entries.{mark-one, mark-all-end}
 use borrow.Author.Needs.{needs}
 use native.Mathlib.Omega.{arith}
 use Prim.Native.Nat.{ℕ, _<_, _-_, _*_}
-use Rattle.window.proofs.release_all.Statement.{statement}
-use Rattle.window.proofs.release_all.Tie as tie
+use Rattle.passes.proofs.release_all.Statement.{statement}
+use Rattle.passes.proofs.release_all.Tie as tie
 
 abbrev Inv-loop : tie.InvT-loop
 Inv-loop work held marks₀ i₀ marks i = (length marks ≡ length marks₀) × (marked (entries work i (held - i)) marks ≡ marked (entries work 0 held) marks₀)
@@ -43,7 +42,7 @@ loop-again c =
     let a = c .before .before .before .before .before .before .before .before .before .args in
     let h : l .i < a .held = omega arith in
     let e = c .before .before .mark .ensures ∙ ap (λ (r : ℕ). set (l .marks) r 1) (c .before .before .before .word .ensures) in
-    (ap length e ∙ length-set (l .marks) (getD (a .work .now) (2 * l .i) 0) 1 ∙ l .inv .0, rw e (sym (mark-one (λ x. true) (a .work .now) (a .held) (l .i) (l .marks) h) ∙ l .inv .1))
+    (ap length e ∙ length-set (l .marks) (getD (a .work .now) (2 * l .i) 0) 1 ∙ l .inv .0, rw e (sym (mark-one (a .work .now) (a .held) (l .i) (l .marks) h) ∙ l .inv .1))
 
 same-length : tie.Need-same-length Inv-loop μ-loop
 same-length c = c .before .loop .inv .0

@@ -5,9 +5,9 @@ use native.Mathlib.Numerals.{add-one}
 use native.Mathlib.Nat.{zero-add, add-zero}
 use mathlib.Core.Path.{_≡_, refl, ap, ap₂, _∙_}
 use mathlib.Core.List.{List, [], _∷_, _++_}
-use lib.ListN.{set, length, length-set}
+use lib.ListN.{getD, set, length, length-set}
 use lib.Seq.{getD-set-same, getD-set-other}
-use Rattle.machine.specs.Machine.{Entry}
+use Rattle.machine.specs.Machine.{Entry, marked}
 use Rattle.window.specs.Work.{entryAt, entries, putEntry}
 
 pub length-entries : (l : List ℕ) (i n : ℕ) → length (entries l i n) ≡ n
@@ -56,3 +56,13 @@ entries-put l i n r s h =
 
 pub entries-put0 : (l : List ℕ) (n r s : ℕ) → 2 * n + 1 < length l → entries (putEntry l n r s) 0 (n + 1) ≡ entries l 0 n ++ (record { row = r; timestamp = s } ∷ [])
 entries-put0 l n r s h = rw (zero-add n) at (entries-put l 0 n r s (omega arith))
+
+-- ---- the marks that the entries from i on still make
+
+pub mark-one : (l : List ℕ) (n i : ℕ) (m : List ℕ) → i < n → marked (entries l i (n - i)) m ≡ marked (entries l (i + 1) (n - (i + 1))) (set m (getD l (2 * i) 0) 1)
+unfolding marked entryAt
+mark-one l n i m h = rw (entries-step l i n h)
+
+pub mark-all-end : (l : List ℕ) (n i : ℕ) (m : List ℕ) → n ≤ i → marked (entries l i (n - i)) m ≡ m
+unfolding marked
+mark-all-end l n i m h = rw (entries-done l i n h)

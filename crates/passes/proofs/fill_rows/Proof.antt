@@ -1,14 +1,15 @@
 use mathlib.Core.Path.{refl, _∙_, _≡_}
 use mathlib.Core.List.{map}
 use Rattle.machine.specs.Machine.{unread}
-use Rattle.window.specs.Work.{allRows, entries}
-use Rattle.window.proofs.Running.{rows-none, rows-more}
+use Rattle.window.specs.Work.{entries}
+use Rattle.passes.specs.Passes.{allRows}
+use Rattle.passes.proofs.Running.{rows-none, rows-more}
 use borrow.Author.Needs.{needs}
 use native.Mathlib.Omega.{arith}
 use Prim.Native.Nat.{_≤_, _-_}
 use lib.ListN.{length}
-use Rattle.window.proofs.fill_rows.Statement.{statement}
-use Rattle.window.proofs.fill_rows.Tie as tie
+use Rattle.passes.proofs.fill_rows.Statement.{statement}
+use Rattle.passes.proofs.fill_rows.Tie as tie
 
 abbrev Inv-loop : tie.InvT-loop
 Inv-loop work₀ w n i₀ work i = (i ≤ n) × (length work ≡ length work₀) × (entries work w i ≡ map unread (allRows i))

@@ -1,12 +1,12 @@
 use mathlib.Core.Path.{refl, _∙_, _≡_}
 use Rattle.window.specs.Work.{tableDominates}
-use Rattle.window.proofs.Running.{Running, running-start, running-ready, running-last, running-more, running-out}
+use Rattle.passes.proofs.Running.{Running, running-start, running-ready, running-last, running-more, running-out}
 use borrow.Author.Needs.{needs}
 use native.Mathlib.Omega.{arith}
-use Prim.Native.Nat.{ℕ, _<_, _-_}
+use Prim.Native.Nat.{ℕ, _<_}
 use lib.ListN.{length}
-use Rattle.window.proofs.all_passes.Statement.{statement}
-use Rattle.window.proofs.all_passes.Tie as tie
+use Rattle.passes.proofs.all_passes.Statement.{statement}
+use Rattle.passes.proofs.all_passes.Tie as tie
 
 above-zero : (n : ℕ) → (n ≡ 0 → ⊥) → 0 < n
 above-zero n h = omega arith

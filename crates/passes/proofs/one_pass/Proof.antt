@@ -1,11 +1,11 @@
 use mathlib.Core.Path.{refl, _∙_, _≡_}
 use Rattle.window.specs.Work.{tableDominates}
-use Rattle.window.proofs.Passing.{Passing, passing-start, passing-ready, passing-rising, passing-step, passing-end}
+use Rattle.passes.proofs.Passing.{Passing, passing-start, passing-ready, passing-rising, passing-step, passing-end}
 use borrow.Author.Needs.{needs}
 use Prim.Native.Nat.{_-_}
 use lib.ListN.{length}
-use Rattle.window.proofs.one_pass.Statement.{statement}
-use Rattle.window.proofs.one_pass.Tie as tie
+use Rattle.passes.proofs.one_pass.Statement.{statement}
+use Rattle.passes.proofs.one_pass.Tie as tie
 
 abbrev Inv-loop : tie.InvT-loop
 Inv-loop table w n work₀ marks₀ flags₀ q₀ i₀ work marks flags q i =

@@ -6,8 +6,8 @@ use borrow.Author.Fill.{fill-more}
 use borrow.Author.Needs.{needs}
 use native.Mathlib.Omega.{arith}
 use Prim.Native.Nat.{ℕ, _≤_, _-_, _+_}
-use Rattle.window.proofs.clear.Statement.{statement}
-use Rattle.window.proofs.clear.Tie as tie
+use Rattle.passes.proofs.clear.Statement.{statement}
+use Rattle.passes.proofs.clear.Tie as tie
 
 abbrev Inv-loop : tie.InvT-loop
 Inv-loop marks₀ i₀ marks i = (i ≤ length marks₀) × (length marks ≡ length marks₀) × (marks ≡ replicate i 0 ++ drop i marks₀)

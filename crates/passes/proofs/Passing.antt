@@ -8,9 +8,10 @@ use mathlib.Core.List.{List, _∷_}
 use lib.ListN.{getD, length}
 use Rattle.machine.specs.Laws.Order.{Rising, Ordered, read-ordered}
 use Rattle.machine.specs.Machine.{Entry, State, read, pass}
-use Rattle.window.specs.Work.{entryAt, entries, stateOf, stateAt, Ready, Read, PassReady, Passed}
+use Rattle.window.specs.Work.{entryAt, entries, stateOf, stateAt, Ready, Read}
+use Rattle.passes.specs.Passes.{PassReady, Passed}
 use Rattle.window.specs.declared.Standing.{Standing}
-use Rattle.window.proofs.Entries.{entries-agree}
+use Rattle.window.specs.Laws.Entries.{entries-agree}
 
 -- i of the n entries that wait are read
 pub record Passing (dom : ℕ → ℕ → Bool) (w n : ℕ) (l m : List ℕ) (p : Standing) (l′ m′ : List ℕ) (p′ : Standing) (i : ℕ) : Type 0 where

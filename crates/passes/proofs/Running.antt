@@ -10,9 +10,10 @@ use Rattle.laws.specs.Lists.{joined}
 use Rattle.laws.specs.Laws.Joined.{singles-length}
 use Rattle.machine.specs.Laws.Order.{Ordered}
 use Rattle.machine.specs.Machine.{Entry, State, marked, pass, passes, renew, finish, isEmpty, unread, start, machine}
-use Rattle.window.specs.Work.{allRows, entries, putEntry, stateOf, stateAt, PassReady, Passed, RunReady, Ran}
+use Rattle.window.specs.Work.{entries, putEntry, stateOf, stateAt}
+use Rattle.passes.specs.Passes.{allRows, PassReady, Passed, RunReady, Ran}
 use Rattle.window.specs.declared.Standing.{Standing}
-use Rattle.window.proofs.Entries.{entries-put}
+use Rattle.window.specs.Laws.Entries.{entries-put}
 
 -- `left` passes may still come, over the entries that wait now
 pub record Running (dom : ℕ → ℕ → Bool) (w n fuel : ℕ) (l m l′ m′ : List ℕ) (p : Standing) (left waiting : ℕ) : Type 0 where

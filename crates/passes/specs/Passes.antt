@@ -1,0 +1,47 @@
+-- What the passes over the rows of a level table promise, on the lists that hold the machine's state (window: specs/Work).
+use Prim.Native.Nat.{ℕ, _+_, _*_, _≤_, _<_}
+use mathlib.Core.Path.{_≡_}
+use mathlib.Core.Bool.{Bool, true}
+use mathlib.Core.List.{List}
+use Rattle.laws.specs.Lists.{passing}
+use Rattle.machine.specs.Laws.Order.{Ordered}
+use Rattle.machine.specs.Machine.{pass, passes}
+use Rattle.window.specs.Work.{entries, stateOf, stateAt}
+use Rattle.window.specs.declared.Standing.{Standing}
+
+-- all rows below n
+abbrev pub allRows : ℕ → List ℕ
+allRows n = passing (λ r. true) n
+
+-- a pass over the n entries that wait may begin
+pub record PassReady (w n size flags : ℕ) (p : Standing) : Type 0 where
+  pub narrow : w ≤ 1024
+  pub flagged : w ≤ flags
+  pub rows : n ≤ 1024
+  pub fit : p .held ≤ w
+  pub none : p .overflow ≡ 0
+  pub room : 2 * (w + n) ≤ size
+  pub early : p .clock + n < 2000000000
+  pub small : p .count + 1024 * n < 1000000000000000
+
+-- the n entries that waited were read
+pub record Passed (dom : ℕ → ℕ → Bool) (w n : ℕ) (l m : List ℕ) (p : Standing) (l′ m′ : List ℕ) (p′ : Standing) : Type 0 where
+  pub state : stateAt w l′ m′ p′ ≡ pass dom w (entries l w n) (stateAt w l m p)
+  pub fit : p′ .held ≤ w
+  pub ordered : Ordered (stateAt w l′ m′ p′)
+  pub few : p′ .overflow ≤ n
+  pub ticks : p′ .clock ≡ p .clock + n
+  pub small : p′ .count ≤ p .count + 1024 * n
+
+-- the passes may begin
+pub record RunReady (w n fuel size flags : ℕ) : Type 0 where
+  pub narrow : w ≤ 1024
+  pub flagged : w ≤ flags
+  pub rows : n ≤ 1024
+  pub turns : fuel ≤ 1048577
+  pub room : 2 * (w + n) ≤ size
+
+-- the passes were made, from a standing of zeros
+pub record Ran (dom : ℕ → ℕ → Bool) (w n fuel : ℕ) (l m m′ : List ℕ) (count : ℕ) : Type 0 where
+  pub count-is : count ≡ passes dom w fuel (entries l w n) (stateOf w l m 0 0 0 0) .count
+  pub marks-are : m′ ≡ passes dom w fuel (entries l w n) (stateOf w l m 0 0 0 0) .marks

@@ -1,0 +1,123 @@
+// The passes of the window machine over the rows of a level table, in a lent work list. A part of the window engine, and no call open to
+// others: `bnl` meets what its calls require.
+use window::Standing;
+ghost use mathlib.Core.Path.{_≡_};
+ghost use Prim.Native.Nat.{ℕ, _+_, _*_, _≤_};
+ghost use mathlib.Core.List.{map};
+ghost use lib.ListN.{length, replicate};
+ghost use Rattle.machine.specs.Machine.{marked, unread, machine};
+ghost use Rattle.machine.specs.Laws.Order.{Ordered};
+ghost use Rattle.window.specs.Work.{tableDominates, entries, stateAt};
+ghost use Rattle.passes.specs.Passes.{allRows, PassReady, Passed, RunReady, Ran};
+
+// Reads the n entries that wait.
+fn one_pass(
+    table: &[u16],
+    w: usize,
+    n: usize,
+    work: &mut [u32],
+    marks: &mut [u8],
+    flags: &mut [u8],
+    p: Standing,
+) -> Standing
+    requires { ⌜ PassReady w n (length (now work)) (length (now flags)) p × Ordered (stateAt w (now work) (now marks) p) ⌝ }
+    ensures { λ q. ⌜ Passed (tableDominates (now (table .entry))) w n (now (work .entry)) (now (marks .entry)) p (now (work .exit)) (now (marks .exit)) q ⌝ }
+{
+    let mut q = p;
+    let mut i: usize = 0;
+    while i < n {
+        let row = window::word(work, 2 * (w + i));
+        let timestamp = window::word(work, 2 * (w + i) + 1);
+        q = window::read_row(table, w, work, marks, flags, q, row, timestamp);
+        i += 1;
+    }
+    q
+}
+
+// Releases the whole window.
+fn release_all(work: &[u32], held: usize, marks: &mut [u8])
+    requires { ⌜ held ≤ 1024 ⌝ }
+    ensures { λ _. ⌜ now (marks .exit) ≡ marked (entries (now (work .entry)) 0 held) (now (marks .entry)) ⌝ }
+{
+    let mut i: usize = 0;
+    while i < held {
+        window::mark(marks, window::word(work, 2 * i) as usize);
+        i += 1;
+    }
+}
+
+// Passes, at most `fuel`, until one sets nothing aside. What a pass set aside stands where the next one reads.
+fn all_passes(
+    table: &[u16],
+    w: usize,
+    n: usize,
+    fuel: usize,
+    work: &mut [u32],
+    marks: &mut [u8],
+    flags: &mut [u8],
+) -> usize
+    requires { ⌜ RunReady w n fuel (length (now work)) (length (now flags)) ⌝ }
+    ensures { λ c. ⌜ Ran (tableDominates (now (table .entry))) w n fuel (now (work .entry)) (now (marks .entry)) (now (marks .exit)) c ⌝ }
+{
+    let mut p = Standing {
+        held: 0,
+        overflow: 0,
+        clock: 0,
+        count: 0,
+    };
+    let mut left = fuel;
+    let mut waiting = n;
+    while 0 < left {
+        let q = one_pass(table, w, waiting, work, marks, flags, p);
+        let held = q.held;
+        let overflow = q.overflow;
+        if overflow == 0 {
+            release_all(work, held, marks);
+            return q.count;
+        }
+        waiting = overflow;
+        p = Standing {
+            held,
+            overflow: 0,
+            clock: q.clock,
+            count: q.count,
+        };
+        left -= 1;
+    }
+    p.count
+}
+
+// ---- the machine on a table
+
+fn clear(marks: &mut [u8])
+    ensures { λ _. ⌜ now (marks .exit) ≡ replicate (length (now (marks .entry))) 0 ⌝ }
+{
+    let mut i: usize = 0;
+    while i < marks.len() {
+        marks[i] = 0;
+        i += 1;
+    }
+}
+
+// The rows below n wait, from entry w on.
+fn fill_rows(work: &mut [u32], w: usize, n: usize)
+    requires { ⌜ (w ≤ 1024) × (n ≤ 1024) × (2 * (w + n) ≤ length (now work)) ⌝ }
+    ensures { λ _. ⌜ entries (now (work .exit)) w n ≡ map unread (allRows n) ⌝ }
+{
+    let mut i: usize = 0;
+    while i < n {
+        window::put_entry(work, w + i, i as u32, 0);
+        i += 1;
+    }
+}
+
+// The machine on the n rows of a table, in marks as many; the compares made come back.
+pub fn run_table(table: &[u16], n: usize, w: usize, marks: &mut [u8], work: &mut [u32]) -> usize
+    requires { ⌜ (n ≤ 1024) × (w ≤ 1024) × (2 * (w + n) ≤ length (now work)) × (length (now marks) ≡ n) ⌝ }
+    ensures { λ c. ⌜ (c ≡ machine (tableDominates (now (table .entry))) w (allRows n) n .count) × (now (marks .exit) ≡ machine (tableDominates (now (table .entry))) w (allRows n) n .marks) ⌝ }
+{
+    clear(marks);
+    fill_rows(work, w, n);
+    let mut flags = [0u8; 1024];
+    all_passes(table, w, n, n * n + 1, work, marks, &mut flags)
+}
