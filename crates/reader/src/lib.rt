@@ -138,13 +138,11 @@ fn out_of_place(class: Class, r: ReadAnswer) -> bool
     requires { ⌜ r .list .count ≤ 8 ⌝ }
     ensures { λ b. ⌜ b ≡ outOfPlace class r ⌝ }
 {
-    let rows = r.rows;
-    let list = r.list;
     match class {
         Class::Unknown => false,
-        Class::PreferenceRecord => 0 < rows,
-        Class::NamedRecord => (0 < rows) | !ends_layered(list),
-        Class::RunRecord => list.count == 0,
+        Class::PreferenceRecord => 0 < r.rows,
+        Class::NamedRecord => (0 < r.rows) | !ends_layered(r.list),
+        Class::RunRecord => r.list.count == 0,
     }
 }
 
@@ -165,17 +163,15 @@ fn figures_number(class: Class, r: ReadAnswer, t: &[u8]) -> u8
     requires { ⌜ r .list .count ≤ 8 ⌝ }
     ensures { λ n. ⌜ n ≡ figuresNumber class r (now (t .entry)) ⌝ }
 {
-    let rows = r.rows;
-    let list = r.list;
     match class {
         Class::Unknown => 0,
         Class::PreferenceRecord => preference::preference_number(
-            list,
-            list.count as usize,
+            r.list,
+            r.list.count as usize,
             preference_of(t),
         ),
-        Class::NamedRecord => naming_number(list, word::get_u8(t, 5)),
-        Class::RunRecord => if 1024 <= rows { 7 } else { 0 },
+        Class::NamedRecord => naming_number(r.list, word::get_u8(t, 5)),
+        Class::RunRecord => if 1024 <= r.rows { 7 } else { 0 },
     }
 }
 
@@ -403,8 +399,7 @@ fn finished(r: ReadAnswer, len: usize, room: usize) -> ReadAnswer
     if r.number != 0 {
         return r;
     }
-    let list = r.list;
-    if list.count == 0 {
+    if r.list.count == 0 {
         return refused_at(1, len);
     }
     if room / 8 < r.rows {

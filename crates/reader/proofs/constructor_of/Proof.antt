@@ -7,7 +7,6 @@ use Rattle.arith.specs.Laws.Local.{num}
 use mathlib.Core.Path.{_∙_, _≡_}
 use denote.Ref.{now}
 use Rattle.format.specs.Read.{constructorOf}
-use borrow.Author.Needs.{needs}
 use Prim.Native.Nat.{ℕ}
 use Rattle.reader.proofs.constructor_of.Statement.{statement}
 use Rattle.reader.proofs.constructor_of.Tie as tie
@@ -30,25 +29,25 @@ module _ (c : tie.After-get-i324) where
   up = num _ (c .get-i324 .ok) ∙ c .get-i324 .ensures
 
 get-i32-requires : tie.Need-get-i32-requires
-get-i32-requires c κs = search needs
+get-i32-requires c κs = tt
 
 get-i32-requires-2 : tie.Need-get-i32-requires-2
-get-i32-requires-2 c κs = search needs
+get-i32-requires-2 c κs = tt
 
 get-u32-requires : tie.Need-get-u32-requires
-get-u32-requires c κs = search needs
+get-u32-requires c κs = tt
 
 get-i32-requires-3 : tie.Need-get-i32-requires-3
-get-i32-requires-3 c κs = search needs
+get-i32-requires-3 c κs = tt
 
 get-i32-requires-4 : tie.Need-get-i32-requires-4
-get-i32-requires-4 c κs = search needs
+get-i32-requires-4 c κs = tt
 
 get-u8-requires : tie.Need-get-u8-requires
-get-u8-requires c κs = search needs
+get-u8-requires c κs = tt
 
 get-u8-requires-2 : tie.Need-get-u8-requires-2
-get-u8-requires-2 c κs = search needs
+get-u8-requires-2 c κs = tt
 
 returns : tie.Need-returns
 unfolding constructorOf

@@ -1,13 +1,12 @@
 use Rattle.format.specs.Read.{endsLayered}
-use borrow.Author.Needs.{needs}
 use Rattle.reader.proofs.ends_layered.Statement.{statement}
 use Rattle.reader.proofs.ends_layered.Tie as tie
 
 last-constructor-requires : tie.Need-last-constructor-requires
-last-constructor-requires c κs = search needs
+last-constructor-requires c κs = c .pre
 
 is-layers-requires : tie.Need-is-layers-requires
-is-layers-requires c κs = search needs
+is-layers-requires c κs = tt
 
 returns : tie.Need-returns
 unfolding endsLayered

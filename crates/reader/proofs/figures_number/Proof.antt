@@ -21,19 +21,19 @@ cast-preference-number : tie.Need-cast-preference-number
 cast-preference-number c = search needs
 
 preference-of-requires : tie.Need-preference-of-requires
-preference-of-requires c κs = search needs
+preference-of-requires c κs = tt
 
 preference-number-requires : tie.Need-preference-number-requires
-preference-number-requires c κs = search needs
+preference-number-requires c κs = tt
 
 enum-told-3 : tie.Need-enum-told-3
 enum-told-3 c = search needs
 
 get-u8-requires : tie.Need-get-u8-requires
-get-u8-requires c κs = search needs
+get-u8-requires c κs = tt
 
 naming-number-requires : tie.Need-naming-number-requires
-naming-number-requires c κs = search needs
+naming-number-requires c κs = c .before .before .before .before .pre
 
 enum-told-4 : tie.Need-enum-told-4
 enum-told-4 c = search needs
@@ -41,13 +41,13 @@ enum-told-4 c = search needs
 returns : tie.Need-returns
 unfolding figuresNumber
 returns c =
-    let a = c .before .before .before .before .args in
+    let a = c .before .before .before .args in
     sym (ap (λ (x : Class). figuresNumber x (a .r) (now (a .t))) (c .enum-told .given .1))
 
 returns-2 : tie.Need-returns-2
 unfolding figuresNumber
 returns-2 c =
-    let a = c .before .before .before .before .before .before .before .args in
+    let a = c .before .before .before .before .before .before .args in
     let l = a .r .list in
     c .preference-number .ensures
     ∙ ap (λ (p : Preference). preferenceNumber l (l .count) p) (c .before .preference-of .ensures)
@@ -56,7 +56,7 @@ returns-2 c =
 returns-3 : tie.Need-returns-3
 unfolding figuresNumber
 returns-3 c =
-    let a = c .before .before .before .before .before .before .args in
+    let a = c .before .before .before .before .before .args in
     c .naming-number .ensures
     ∙ ap (λ (layer : ℕ). namingNumber (a .r .list) layer) (c .before .get-u8 .ensures)
     ∙ sym (ap (λ (x : Class). figuresNumber x (a .r) (now (a .t))) (c .before .before .enum-told3 .given .1))
@@ -65,13 +65,13 @@ returns-4 : tie.Need-returns-4
 unfolding figuresNumber
 returns-4 c =
     let a = c .before .before .before .before .before .args in
-    sym (ap (λ (x : Class). figuresNumber x (a .r) (now (a .t))) (c .before .enum-told4 .given .1) ∙ gives-yes _ 7 (le-leb _ _ (c .if1 .taken)))
+    sym (ap (λ (x : Class). figuresNumber x (a .r) (now (a .t))) (c .before .before .enum-told4 .given .1) ∙ gives-yes _ 7 (le-leb _ _ (c .if1 .taken)))
 
 returns-5 : tie.Need-returns-5
 unfolding figuresNumber
 returns-5 c =
     let a = c .before .before .before .before .before .args in
-    sym (ap (λ (x : Class). figuresNumber x (a .r) (now (a .t))) (c .before .enum-told4 .given .1) ∙ gives-no _ 7 (lt-leb _ _ (c .if1 .left)))
+    sym (ap (λ (x : Class). figuresNumber x (a .r) (now (a .t))) (c .before .before .enum-told4 .given .1) ∙ gives-no _ 7 (lt-leb _ _ (c .if1 .left)))
 
 pub figures-number-spec : {M : Type 1} → statement M
 figures-number-spec =

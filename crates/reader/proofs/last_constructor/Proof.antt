@@ -5,7 +5,7 @@ use Rattle.reader.proofs.last_constructor.Statement.{statement}
 use Rattle.reader.proofs.last_constructor.Tie as tie
 
 place-before-requires : tie.Need-place-before-requires
-place-before-requires c κs = search needs
+place-before-requires c κs = tt
 
 cast-i : tie.Need-cast-i
 cast-i c = search needs

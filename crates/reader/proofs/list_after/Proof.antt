@@ -13,7 +13,7 @@ enum-told-2 : tie.Need-enum-told-2
 enum-told-2 c = search needs
 
 preference-of-requires : tie.Need-preference-of-requires
-preference-of-requires c κs = search needs
+preference-of-requires c κs = tt
 
 with-preference-requires : tie.Need-with-preference-requires
 with-preference-requires c κs = c .before .before .before .before .pre .0 (c .before .enum-told2 .given .1)

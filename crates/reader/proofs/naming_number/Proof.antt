@@ -4,7 +4,6 @@ use Rattle.format.specs.Read.{lastConstructor, namingNumber}
 use mathlib.Core.Path.{ap, _∙_, sym, _≡_}
 use borrow.Author.Tests.{le-leb, lt-leb}
 use Rattle.laws.specs.Laws.Checks.{then-first, then-next, gives-yes, gives-no}
-use borrow.Author.Needs.{needs}
 use Rattle.reader.proofs.naming_number.Statement.{statement}
 use Rattle.reader.proofs.naming_number.Tie as tie
 
@@ -12,10 +11,10 @@ layer : (c : tie.After-layer-number) → c .layer-number .result ≡ layerNumber
 layer c = c .layer-number .ensures ∙ ap (λ (f : Constructor). layerNumber f (c .before .before .args .layer)) (c .before .last-constructor .ensures)
 
 last-constructor-requires : tie.Need-last-constructor-requires
-last-constructor-requires c κs = search needs
+last-constructor-requires c κs = c .pre
 
 layer-number-requires : tie.Need-layer-number-requires
-layer-number-requires c κs = search needs
+layer-number-requires c κs = tt
 
 returns : tie.Need-returns
 unfolding namingNumber

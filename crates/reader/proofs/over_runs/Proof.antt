@@ -1,4 +1,3 @@
-use borrow.Author.Needs.{needs}
 use native.Mathlib.Omega.{arith}
 use Prim.Native.Nat.{_≤_, _<_, _-_, _+_}
 use mathlib.Core.Path.{_≡_}
@@ -33,7 +32,7 @@ loop-holds c =
     (pos-of-ne-zero (c .if2 .left), rw (is-reading (b .args .r) (c .before .before .before .if1 .left)) at (b .pre), le-refl _)
 
 run-stands-requires : tie.Need-run-stands-requires Inv-loop μ-loop
-run-stands-requires c κs = search needs
+run-stands-requires c κs = tt
 
 add-place : tie.Need-add-place Inv-loop μ-loop
 add-place c = omega (arith, stands c)

@@ -1,16 +1,15 @@
 use denote.Ref.{now}
-use borrow.Author.Needs.{needs}
 use Rattle.reader.proofs.preference_of.Statement.{statement}
 use Rattle.reader.proofs.preference_of.Tie as tie
 
 get-u8-requires : tie.Need-get-u8-requires
-get-u8-requires c κs = search needs
+get-u8-requires c κs = tt
 
 get-u8-requires-2 : tie.Need-get-u8-requires-2
-get-u8-requires-2 c κs = search needs
+get-u8-requires-2 c κs = tt
 
 constructor-of-requires : tie.Need-constructor-of-requires
-constructor-of-requires c κs = search needs
+constructor-of-requires c κs = tt
 
 returns : tie.Need-returns
 returns c =

@@ -43,7 +43,7 @@ add-whole-i32 : tie.Need-add-whole-i32 Inv-loop μ-loop
 add-whole-i32 c = search needs
 
 whole-i32-requires : tie.Need-whole-i32-requires Inv-loop μ-loop
-whole-i32-requires c κs = search needs
+whole-i32-requires c κs = omega arith
 
 add-t9 : tie.Need-add-t9 Inv-loop μ-loop
 add-t9 c = search needs

@@ -7,7 +7,6 @@ use Rattle.format.specs.Kinds.{classOf, bodyOf}
 use Rattle.format.specs.Read.{valuesUnder}
 use Rattle.reader.proofs.Part.{part}
 use Rattle.reader.proofs.Stored.{Next, Stored, valuesAt, stored-none, stored-next, stored-all}
-use borrow.Author.Needs.{needs}
 use native.Mathlib.Omega.{arith}
 use Prim.Native.Nat.{ℕ, _-_, _+_}
 use Rattle.reader.proofs.put_runs.Statement.{statement}
@@ -39,7 +38,7 @@ part-t-end : tie.Need-part-t-end Inv-loop μ-loop
 part-t-end c = omega arith
 
 body-of-requires : tie.Need-body-of-requires Inv-loop μ-loop
-body-of-requires c κs = search needs
+body-of-requires c κs = tt
 
 add-at : tie.Need-add-at Inv-loop μ-loop
 add-at c = omega (arith, c .body-of .ensures .1)

@@ -1,7 +1,6 @@
 use native.Mathlib.Nat.{lt-of-le-of-lt}
 use denote.Ref.{now}
 use Rattle.format.specs.Laws.Read.{Midway, toRead, to-read-falls, midway-start, midway-step, midway-end}
-use borrow.Author.Needs.{needs}
 use Rattle.reader.proofs.read_records.Statement.{statement}
 use Rattle.reader.proofs.read_records.Tie as tie
 
@@ -12,7 +11,7 @@ abbrev μ-loop : tie.MeasureT-loop
 μ-loop s r₀ r = toRead s r
 
 refused-at-requires : tie.Need-refused-at-requires Inv-loop μ-loop
-refused-at-requires c κs = search needs
+refused-at-requires c κs = tt
 
 loop-holds : tie.Need-loop-holds Inv-loop μ-loop
 loop-holds c = rw (c .refused-at .ensures) (midway-start (now (c .before .before .args .s)))

@@ -5,7 +5,6 @@ use Rattle.laws.specs.Checks.{_gives_, _then_}
 use Rattle.format.specs.Kinds.{classOf, bodyOf}
 use Rattle.format.specs.Read.{isUnknown, outOfPlace, recordNumber}
 use Rattle.format.specs.declared.Class.{Class}
-use borrow.Author.Needs.{needs}
 use native.Mathlib.Omega.{arith}
 use Prim.Native.Nat.{_≤_, _<_}
 use lib.ListN.{length}
@@ -19,24 +18,24 @@ placed : (c : tie.After-out-of-place) → outOfPlace (classOf (now (c .before .b
 placed c = sym (c .out-of-place .ensures ∙ ap (λ (x : Class). outOfPlace x (c .before .before .before .before .before .args .r)) (c .before .before .before .class-of .ensures))
 
 class-of-requires : tie.Need-class-of-requires
-class-of-requires c κs = search needs
+class-of-requires c κs = tt
 
 is-unknown-requires : tie.Need-is-unknown-requires
-is-unknown-requires c κs = search needs
+is-unknown-requires c κs = tt
 
 returns : tie.Need-returns
 unfolding recordNumber _gives_ _then_
 returns c = rw (unknown (c .before) ∙ c .if1 .taken)
 
 out-of-place-requires : tie.Need-out-of-place-requires
-out-of-place-requires c κs = search needs
+out-of-place-requires c κs = c .before .before .before .before .pre
 
 returns-2 : tie.Need-returns-2
 unfolding recordNumber _gives_ _then_
 returns-2 c = rw (unknown (c .before .before .before) ∙ c .before .before .if1 .left, placed (c .before) ∙ c .if2 .taken)
 
 body-of-requires : tie.Need-body-of-requires
-body-of-requires c κs = search needs
+body-of-requires c κs = tt
 
 returns-3 : tie.Need-returns-3
 unfolding recordNumber _gives_ _then_
@@ -46,7 +45,7 @@ returns-3 c =
     rw (unknown (c .before .before .before .before .before) ∙ c .before .before .before .before .if1 .left, placed (c .before .before .before) ∙ c .before .before .if2 .left, le-leb _ _ h)
 
 figures-number-requires : tie.Need-figures-number-requires
-figures-number-requires c κs = search needs
+figures-number-requires c κs = c .before .before .before .before .before .before .before .before .pre
 
 returns-4 : tie.Need-returns-4
 unfolding recordNumber _gives_ _then_

@@ -1,9 +1,8 @@
-use borrow.Author.Needs.{needs}
 use Rattle.reader.proofs.refused_at.Statement.{statement}
 use Rattle.reader.proofs.refused_at.Tie as tie
 
 zero-list-requires : tie.Need-zero-list-requires
-zero-list-requires c κs = search needs
+zero-list-requires c κs = tt
 
 returns : tie.Need-returns
 returns c = rw (c .zero-list .ensures)

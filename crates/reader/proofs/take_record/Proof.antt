@@ -3,14 +3,13 @@ use denote.Ref.{now}
 use Rattle.format.specs.Read.{recordNumber, withRecord, refusedAt, takeRecord}
 use Rattle.format.specs.Laws.Columns.{columns-few}
 use Rattle.format.specs.Laws.Read.{unless-none, unless-some}
-use borrow.Author.Needs.{needs}
 use native.Mathlib.Omega.{arith}
 use Prim.Native.Nat.{ℕ, _+_}
 use Rattle.reader.proofs.take_record.Statement.{statement}
 use Rattle.reader.proofs.take_record.Tie as tie
 
 body-of-requires : tie.Need-body-of-requires
-body-of-requires c κs = search needs
+body-of-requires c κs = tt
 
 add-next : tie.Need-add-next
 add-next c = omega (arith, c .body-of .ensures .1)
@@ -22,7 +21,7 @@ record-number-requires : tie.Need-record-number-requires
 record-number-requires c κs = columns-few (c .before .before .args .r .list) (c .before .before .pre .0)
 
 refused-at-requires : tie.Need-refused-at-requires
-refused-at-requires c κs = search needs
+refused-at-requires c κs = tt
 
 returns : tie.Need-returns
 unfolding takeRecord

@@ -30,10 +30,10 @@ shared-slice-read-of-bytes-4 : tie.Need-shared-slice-read-of-bytes-4
 shared-slice-read-of-bytes-4 c = search needs
 
 of-bytes-requires : tie.Need-of-bytes-requires
-of-bytes-requires c κs = search needs
+of-bytes-requires c κs = tt
 
 signed-requires : tie.Need-signed-requires
-signed-requires c κs = search needs
+signed-requires c κs = tt
 
 returns : tie.Need-returns
 unfolding wordAt intAt

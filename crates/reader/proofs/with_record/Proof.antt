@@ -3,7 +3,6 @@ use denote.Ref.{now}
 use Rattle.format.specs.Read.{withRecord}
 use Rattle.format.specs.Laws.Columns.{columns-few}
 use Rattle.format.specs.Laws.Read.{Accepts, accepts, preference-room, named-room, run-room}
-use borrow.Author.Needs.{needs}
 use Rattle.reader.proofs.with_record.Statement.{statement}
 use Rattle.reader.proofs.with_record.Tie as tie
 
@@ -11,7 +10,7 @@ accepted : (c : tie.Start) → Accepts (c .args .r) (now (c .args .t))
 accepted c = accepts (c .args .r) (now (c .args .t)) (c .pre .1)
 
 class-of-requires : tie.Need-class-of-requires
-class-of-requires c κs = search needs
+class-of-requires c κs = tt
 
 rows-after-requires : tie.Need-rows-after-requires
 rows-after-requires c κs =

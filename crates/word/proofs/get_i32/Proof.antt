@@ -1,4 +1,3 @@
-use borrow.Author.Needs.{needs}
 use mathlib.Core.Path.{ap, _∙_}
 use mir.Syntax.{w32}
 use mir.Val.{toZ}
@@ -9,11 +8,11 @@ use Rattle.word.proofs.get_i32.Tie as tie
 
 -- src/lib.rt:52:12
 get-u32-requires : tie.Need-get-u32-requires
-get-u32-requires c κs = search needs
+get-u32-requires c κs = tt
 
 -- src/lib.rt:52:5
 signed-requires : tie.Need-signed-requires
-signed-requires c κs = search needs
+signed-requires c κs = tt
 
 -- src/lib.rt:48:1
 returns : tie.Need-returns

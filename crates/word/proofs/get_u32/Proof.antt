@@ -41,7 +41,7 @@ shared-slice-read-of-bytes-4 : tie.Need-shared-slice-read-of-bytes-4
 shared-slice-read-of-bytes-4 c = search needs
 
 of-bytes-requires : tie.Need-of-bytes-requires
-of-bytes-requires c κs = search needs
+of-bytes-requires c κs = tt
 
 returns-3 : tie.Need-returns-3
 unfolding wordAt

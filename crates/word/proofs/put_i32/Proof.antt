@@ -11,10 +11,10 @@ use Rattle.word.proofs.put_i32.Statement.{statement}
 use Rattle.word.proofs.put_i32.Tie as tie
 
 unsigned-requires : tie.Need-unsigned-requires
-unsigned-requires c κs = search needs
+unsigned-requires c κs = tt
 
 put-u32-requires : tie.Need-put-u32-requires
-put-u32-requires c κs = search needs
+put-u32-requires c κs = tt
 
 same-length : tie.Need-same-length
 same-length c = search needs

@@ -12,7 +12,7 @@ cast-put-u8 : tie.Need-cast-put-u8
 cast-put-u8 c = search needs
 
 put-u8-requires : tie.Need-put-u8-requires
-put-u8-requires c κs = search needs
+put-u8-requires c κs = tt
 
 add-put-u8 : tie.Need-add-put-u8
 add-put-u8 c = search needs
@@ -21,7 +21,7 @@ cast-put-u8-2 : tie.Need-cast-put-u8-2
 cast-put-u8-2 c = search needs
 
 put-u8-requires-2 : tie.Need-put-u8-requires-2
-put-u8-requires-2 c κs = search needs
+put-u8-requires-2 c κs = tt
 
 add-put-u8-2 : tie.Need-add-put-u8-2
 add-put-u8-2 c = search needs
@@ -30,7 +30,7 @@ cast-put-u8-3 : tie.Need-cast-put-u8-3
 cast-put-u8-3 c = search needs
 
 put-u8-requires-3 : tie.Need-put-u8-requires-3
-put-u8-requires-3 c κs = search needs
+put-u8-requires-3 c κs = tt
 
 add-put-u8-3 : tie.Need-add-put-u8-3
 add-put-u8-3 c = search needs
@@ -39,7 +39,7 @@ cast-put-u8-4 : tie.Need-cast-put-u8-4
 cast-put-u8-4 c = search needs
 
 put-u8-requires-4 : tie.Need-put-u8-requires-4
-put-u8-requires-4 c κs = search needs
+put-u8-requires-4 c κs = tt
 
 same-length : tie.Need-same-length
 same-length c = search needs
