@@ -12,9 +12,8 @@ ghost use Prim.Native.Nat.{_+_, _-_, _<_, _≤_, _^_};
 ghost use lib.ListN.{length, getD};
 ghost use lib.Seq.{sets};
 ghost use Rattle.word.specs.Word.{intAt};
-ghost use Rattle.constructor.specs.Level.{layeringOf};
 ghost use Rattle.format.specs.Kinds.{classOf, bodyOf};
-ghost use Rattle.format.specs.Read.{constructorOf, preferenceOf, namedOf, intsAt, lastConstructor, isLayers, endsLayered, outOfPlace, namingNumber, figuresNumber, isUnknown, recordNumber, zeroList, addPreference, addNamed, listAfter, rowsAfter, withRecord, refusedAt, takeRecord, goes, step, records, finish, readOf, valuesUnder, valuesOf, logAfter};
+ghost use Rattle.format.specs.Read.{constructorOf, preferenceOf, namedOf, intsAt, lastConstructor, endsLayered, outOfPlace, namingNumber, figuresNumber, isUnknown, recordNumber, zeroList, addPreference, addNamed, listAfter, rowsAfter, refusedAt, goes, step, records, finish, readOf, valuesUnder, valuesOf, logAfter};
 ghost use Rattle.format.specs.Laws.Columns.{Columns};
 ghost use Rattle.format.specs.Laws.Read.{Midway, toRead};
 ghost use Rattle.format.specs.declared.Class.the-variants.{PreferenceRecord, NamedRecord, RunRecord};
@@ -114,23 +113,16 @@ fn last_constructor(list: PreferenceList) -> Constructor
     p.constructor
 }
 
-fn is_layers(c: Constructor) -> bool
-    ensures { λ r. ⌜ r ≡ isLayers (layeringOf c) ⌝ }
-{
-    let y = constructor::layering_of(c);
-    match y {
-        Layering::Numeric => false,
-        Layering::Layers { top: _, others: _ } => true,
-    }
-}
-
 // Whether the last preference is LAYERED.
 fn ends_layered(list: PreferenceList) -> bool
     requires { ⌜ list .count ≤ 8 ⌝ }
     ensures { λ r. ⌜ r ≡ endsLayered list ⌝ }
 {
-    let layered = is_layers(last_constructor(list));
-    (0 < list.count) & layered
+    let y = constructor::layering_of(last_constructor(list));
+    match y {
+        Layering::Numeric => false,
+        Layering::Layers { top: _, others: _ } => 0 < list.count,
+    }
 }
 
 // 3: a preference after a run, a named value that follows on no LAYERED preference, a run before any preference.
@@ -262,22 +254,6 @@ fn rows_after(class: Class, rows: usize) -> usize
     }
 }
 
-// With the record that t begins with, which no check refuses; next is the place after it.
-fn with_record(r: ReadAnswer, t: &[u8], next: usize) -> ReadAnswer
-    requires { ⌜ Columns (r .list) × (recordNumber r (now t) ≡ 0) × (next ≡ r .place + (1 + bodyOf (now t))) ⌝ }
-    ensures { λ a. ⌜ a ≡ withRecord r (now (t .entry)) ⌝ }
-{
-    let class = class_of(t);
-    let rows = rows_after(class, r.rows);
-    let list = list_after(class, r.list, t);
-    ReadAnswer {
-        number: 0,
-        place: next,
-        rows,
-        list,
-    }
-}
-
 fn zero_list() -> PreferenceList
     ensures { λ r. ⌜ r ≡ zeroList ⌝ }
 {
@@ -317,28 +293,27 @@ fn refused_at(number: u8, place: usize) -> ReadAnswer
 
 // ---- record by record
 
-// The record that t begins with: a refusal at its place, or what was read with it.
-fn take_record(r: ReadAnswer, t: &[u8]) -> ReadAnswer
-    requires { ⌜ Columns (r .list) × (r .place < 2 ^ 63) ⌝ }
-    ensures { λ a. ⌜ a ≡ takeRecord r (now (t .entry)) ⌝ }
+// The record at the place that was read up to: a refusal there, or what was read with it.
+fn step_on(s: &[u8], r: ReadAnswer) -> ReadAnswer
+    requires { ⌜ Columns (r .list) × (goes (now s) r ≡ true) ⌝ }
+    ensures { λ a. ⌜ a ≡ step (now (s .entry)) r ⌝ }
 {
     let place = r.place;
+    let t = &s[place..];
     let next = place + (1 + body_of(t));
     let number = record_number(r, t);
     if number != 0 {
         return refused_at(number, place);
     }
-    with_record(r, t, next)
-}
-
-// The record at the place that was read up to.
-fn step_on(s: &[u8], r: ReadAnswer) -> ReadAnswer
-    requires { ⌜ Columns (r .list) × (goes (now s) r ≡ true) ⌝ }
-    ensures { λ a. ⌜ a ≡ step (now (s .entry)) r ⌝ }
-{
-    let at = r.place;
-    let t = &s[at..];
-    take_record(r, t)
+    let class = class_of(t);
+    let rows = rows_after(class, r.rows);
+    let list = list_after(class, r.list, t);
+    ReadAnswer {
+        number: 0,
+        place: next,
+        rows,
+        list,
+    }
 }
 
 // Whether a whole run stands at a place, with room for it after so many rows.
