@@ -22,13 +22,14 @@ tableOf l log = joined (λ i. tableEntry l log i ∷ []) (8 * rowCount log)
 abbrev pub lower : List ℕ → ℕ → ℕ → ℕ → Bool
 lower table p q k = ltb (getD table (p + k) 0) (getD table (q + k) 0)
 
+-- row a of a table has a level below row b's; a row that the table has not has none
+unfoldable pub hasLower : List ℕ → ℕ → ℕ → Bool
+hasLower table a b = (ltb a (length table / 8) && ltb b (length table / 8)) && anyBelow (lower table (8 * a) (8 * b)) 8
+
 -- 1 where only the first has a lower level, so that it dominates; 2 where only the second has one; 3 where both have, 0 where they are equal
 abbrev pub relation : Bool → Bool → ℕ
 relation first second = cond first (cond second 3 1) (cond second 2 0)
 
--- how rows a and b of a table stand, both ways at once; 0 where the table has no such row
+-- how rows a and b of a table stand, both ways at once
 unfoldable pub compared : List ℕ → ℕ → ℕ → ℕ
-compared table a b =
-    cond (ltb a (length table / 8) && ltb b (length table / 8))
-    (relation (anyBelow (lower table (8 * a) (8 * b)) 8) (anyBelow (lower table (8 * b) (8 * a)) 8))
-    0
+compared table a b = relation (hasLower table a b) (hasLower table b a)

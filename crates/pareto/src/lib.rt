@@ -9,7 +9,7 @@ ghost use Rattle.laws.specs.First.{anyBelow};
 ghost use Rattle.runs.specs.Log.{rowAt};
 ghost use Rattle.preference.specs.Parts.{rowNumber};
 ghost use Rattle.pareto.specs.Checked.{rowsNumber, checkedNumber};
-ghost use Rattle.pareto.specs.Table.{tableOf, lower, relation, compared};
+ghost use Rattle.pareto.specs.Table.{tableOf, lower, hasLower, relation, compared};
 
 // 8 or 0 of one row, handed on as the part of the log that begins at 8 × its number.
 fn row_at_number(list: PreferenceList, log: &[i32], r: usize) -> u8
@@ -77,10 +77,17 @@ fn relation_of(first: bool, second: bool) -> u8
     if second { 2 } else { 0 }
 }
 
+// Whether each of two rows has a level below the other's, and how they stand by that.
+pub struct Lower {
+    pub first: bool,
+    pub second: bool,
+    pub relation: u8,
+}
+
 // Two rows of a table that begin at p and q. One look at each level tells both ways.
-fn rows_compared(table: &[u16], p: usize, q: usize) -> u8
+fn rows_compared(table: &[u16], p: usize, q: usize) -> Lower
     requires { ⌜ (p + 8 ≤ length (now table)) × (q + 8 ≤ length (now table)) ⌝ }
-    ensures { λ r. ⌜ r ≡ relation (anyBelow (lower (now (table .entry)) p q) 8) (anyBelow (lower (now (table .entry)) q p) 8) ⌝ }
+    ensures { λ r. ⌜ (r .first ≡ anyBelow (lower (now (table .entry)) p q) 8) × (r .second ≡ anyBelow (lower (now (table .entry)) q p) 8) × (r .relation ≡ relation (r .first) (r .second)) ⌝ }
 {
     let mut first = false;
     let mut second = false;
@@ -92,19 +99,39 @@ fn rows_compared(table: &[u16], p: usize, q: usize) -> u8
         second = second | (y < x);
         k += 1;
     }
-    relation_of(first, second)
+    Lower {
+        first,
+        second,
+        relation: relation_of(first, second),
+    }
+}
+
+// Which of rows a and b of a table has a level below the other's.
+pub fn lower_levels(table: &[u16], a: usize, b: usize) -> Lower
+    ensures { λ r. ⌜ (r .first ≡ hasLower (now (table .entry)) a b) × (r .second ≡ hasLower (now (table .entry)) b a) × (r .relation ≡ compared (now (table .entry)) a b) ⌝ }
+{
+    let n = table.len() / 8;
+    if n <= a {
+        return Lower {
+            first: false,
+            second: false,
+            relation: 0,
+        };
+    }
+    if n <= b {
+        return Lower {
+            first: false,
+            second: false,
+            relation: 0,
+        };
+    }
+    rows_compared(table, 8 * a, 8 * b)
 }
 
 // How rows a and b of a table stand: 1 where a dominates, 2 where b does, 3 where neither does and they differ, else 0.
 pub fn compare(table: &[u16], a: usize, b: usize) -> u8
     ensures { λ r. ⌜ r ≡ compared (now (table .entry)) a b ⌝ }
 {
-    let n = table.len() / 8;
-    if n <= a {
-        return 0;
-    }
-    if n <= b {
-        return 0;
-    }
-    rows_compared(table, 8 * a, 8 * b)
+    let lower = lower_levels(table, a, b);
+    lower.relation
 }

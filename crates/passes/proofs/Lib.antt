@@ -1,2 +1,3 @@
 pub mod Passing
+pub mod Rows
 pub mod Running

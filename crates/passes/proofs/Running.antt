@@ -1,19 +1,16 @@
 -- The passes, one by one.
 use Prim.Native.Nat.{ℕ, zero, suc, _+_, _-_, _*_, _≤_, _<_}
 use native.Mathlib.Omega.{arith}
-use native.Mathlib.Numerals.{add-one}
 use mathlib.Core.Path.{_≡_, refl, sym, ap, _∙_}
 use mathlib.Core.Bool.{Bool, false, cond}
-use mathlib.Core.List.{List, [], _∷_, _++_, map, List·Memᴰ·not-nil}
+use mathlib.Core.List.{List, map, List·Memᴰ·not-nil}
 use lib.ListN.{length, replicate}
-use Rattle.laws.specs.Lists.{joined}
 use Rattle.laws.specs.Laws.Joined.{singles-length}
 use Rattle.machine.specs.Laws.Order.{Ordered}
 use Rattle.machine.specs.Machine.{Entry, State, marked, pass, passes, renew, finish, isEmpty, unread, start, machine}
-use Rattle.window.specs.Work.{entries, putEntry, stateOf, stateAt}
+use Rattle.window.specs.Work.{entries, stateOf, stateAt}
 use Rattle.passes.specs.Passes.{allRows, PassReady, Passed, RunReady, Ran}
 use Rattle.window.specs.declared.Standing.{Standing}
-use Rattle.window.specs.Laws.Entries.{entries-put}
 
 -- `left` passes may still come, over the entries that wait now
 pub record Running (dom : ℕ → ℕ → Bool) (w n fuel : ℕ) (l m l′ m′ : List ℕ) (p : Standing) (left waiting : ℕ) : Type 0 where
@@ -121,24 +118,6 @@ module _ {dom : ℕ → ℕ → Bool} {w n fuel flags : ℕ} {l m : List ℕ} (g
     pub running-out : left ≤ 0 → Ran dom w n fuel l m m₁ (p .count)
     unfolding passes stateOf
     running-out h = let o : left ≡ 0 = omega arith in record { count-is = rw o at (z .counts); marks-are = rw o at (z .makes) }
-
--- ---- the start
-
-map-snoc : (xs : List ℕ) (r : ℕ) → map unread (xs ++ (r ∷ [])) ≡ map unread xs ++ (unread r ∷ [])
-map-snoc [] r = refl
-map-snoc (x ∷ xs) r = ap (λ (es : List Entry). unread x ∷ es) (map-snoc xs r)
-
-pub rows-none : (l : List ℕ) (w : ℕ) → entries l w 0 ≡ map unread (allRows 0)
-unfolding entries joined
-rows-none l w = refl
-
--- one row more waits
-pub rows-more : (l : List ℕ) (w i : ℕ) → entries l w i ≡ map unread (allRows i) → 2 * (w + i) + 1 < length l → entries (putEntry l (w + i) i 0) w (i + 1) ≡ map unread (allRows (i + 1))
-unfolding joined
-rows-more l w i h room =
-    entries-put l w i i 0 room
-    ∙ ap (λ (es : List Entry). es ++ (unread i ∷ [])) h
-    ∙ rw (add-one i) (sym (map-snoc (allRows i) i))
 
 -- what the passes over all rows leave is the machine's result
 module _ {dom : ℕ → ℕ → Bool} {w n : ℕ} {l m m′ : List ℕ} {c : ℕ} (z : Ran dom w n (n * n + 1) l m m′ c)

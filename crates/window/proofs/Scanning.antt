@@ -1,37 +1,53 @@
 -- A row compared with the entries in order, and the flags that this leaves.
-use Prim.Native.Nat.{ℕ, _+_, _-_, _*_, _/_, _≤_, _<_}
+use Prim.Native.Nat.{ℕ, _+_, _-_, _*_, _≤_, _<_}
 use native.Mathlib.Omega.{arith}
 use native.Mathlib.Decide.{ℕ-discrete}
-use mathlib.Core.Path.{_≡_, refl, sym, _∙_}
-use mathlib.Core.Bool.{Bool, true, false, not, _&&_, _||_, cond, true≢false}
+use mathlib.Core.Path.{_≡_, refl, sym, ap, _∙_}
+use mathlib.Core.Bool.{Bool, true, false, not, _||_, Bool·beq, true≢false}
 use mathlib.Core.List.{List}
-use lib.Dec.{eqb, ltb}
+use lib.Dec.{eqb}
 use lib.ListN.{getD, set, length}
 use lib.Seq.{getD-set-same, getD-set-other}
 use borrow.Author.Count.{below-more}
 use borrow.Author.Tests.{eq-eqb, ne-eqb, not-false}
-use Rattle.laws.specs.First.{anyBelow}
 use Rattle.laws.specs.Lists.{anyOf}
 use Rattle.laws.specs.Laws.Bools.{neither}
-use Rattle.pareto.specs.Table.{compared, relation, lower}
+use Rattle.pareto.specs.Table.{hasLower, compared, relation}
 use Rattle.machine.specs.Machine.{Entry, dominated, compares, spares}
 use Rattle.window.specs.Work.{tableDominates, entryAt, entries, Undropped, Fronted, Scanned}
 use Rattle.window.specs.declared.Front.{Front}
 use Rattle.window.specs.Laws.Entries.{entries-step, entries-done}
 
 -- one compare tells both ways
-turned : (p q first second : Bool) → eqb (cond (p && q) (relation first second) 0) 2 ≡ eqb (cond (q && p) (relation second first) 0) 1
-turned true true true true = refl
-turned true true true false = refl
-turned true true false true = refl
-turned true true false false = refl
-turned true false first second = refl
-turned false true first second = refl
-turned false false first second = refl
+turned : (first second : Bool) → eqb (relation first second) 2 ≡ eqb (relation second first) 1
+turned true true = refl
+turned true false = refl
+turned false true = refl
+turned false false = refl
 
 pub compared-turned : (t : List ℕ) (a b : ℕ) → eqb (compared t a b) 2 ≡ tableDominates t b a
 unfolding compared tableDominates
-compared-turned t a b = turned (ltb a (length t / 8)) (ltb b (length t / 8)) (anyBelow (lower t (8 * a) (8 * b)) 8) (anyBelow (lower t (8 * b) (8 * a)) 8)
+compared-turned t a b = turned (hasLower t a b) (hasLower t b a)
+
+pub same-bools : (a b : Bool) → not (Bool·beq a b) ≡ false → a ≡ b
+same-bools true true e = refl
+same-bools true false e = absurd (true≢false e)
+same-bools false true e = absurd (true≢false e)
+same-bools false false e = refl
+
+-- two rows that both have a lower level, or both none, are apart
+module _ (t l : List ℕ) (r i : ℕ) (b : Bool) (p : b ≡ hasLower t (getD l (2 * i) 0) r) (q : b ≡ hasLower t r (getD l (2 * i) 0)) where
+  even : (d : Bool) → eqb (relation d d) 1 ≡ false
+  even true = refl
+  even false = refl
+
+  pub apart-undropped : tableDominates t (getD l (2 * i) 0) r ≡ false
+  unfolding tableDominates compared
+  apart-undropped = rw (← p, ← q) (even b)
+
+  pub apart-spared : spares (tableDominates t) r (entryAt l i) ≡ true
+  unfolding tableDominates compared spares entryAt
+  apart-spared = rw (← p, ← q) (ap not (even b))
 
 -- ---- the entries that do not dominate the row, one by one
 

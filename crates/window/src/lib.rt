@@ -43,7 +43,7 @@ pub fn mark(marks: &mut [u8], row: usize)
 
 // ---- reading one row
 
-// How many entries, the oldest first, are apart from a row: neither dominates, and they differ. How the next one and the row stand, or 3.
+// How many entries, the oldest first, are apart from a row: neither dominates the other. How the next one and the row stand, or 3.
 pub struct Front {
     pub at: usize,
     pub relation: u8,
@@ -56,6 +56,14 @@ pub struct Verdict {
     pub compares: usize,
 }
 
+// The row of an entry that the work list holds.
+fn entry_row(work: &[u32], at: usize) -> usize
+    requires { ⌜ (at ≤ 1024) × (2 * at < length (now work)) ⌝ }
+    ensures { λ r. ⌜ r ≡ getD (now (work .entry)) (2 * at) 0 ⌝ }
+{
+    work[2 * at] as usize
+}
+
 // How an entry of the window and a row stand; 3 behind the last.
 fn entry_compared(table: &[u16], work: &[u32], at: usize, held: usize, row: u32) -> u8
     requires { ⌜ (held ≤ 1024) × (2 * held ≤ length (now work)) ⌝ }
@@ -64,7 +72,7 @@ fn entry_compared(table: &[u16], work: &[u32], at: usize, held: usize, row: u32)
     if held <= at {
         return 3;
     }
-    pareto::compare(table, work[2 * at] as usize, row as usize)
+    pareto::compare(table, entry_row(work, at), row as usize)
 }
 
 // Most entries are apart from a row: a short loop of its own passes them.
@@ -75,9 +83,12 @@ fn apart(table: &[u16], work: &[u32], held: usize, row: u32) -> Front
     let mut left = held;
     while 0 < left {
         let at = held - left;
-        let relation = entry_compared(table, work, at, held, row);
-        if relation != 3 {
-            return Front { at, relation };
+        let lower = pareto::lower_levels(table, entry_row(work, at), row as usize);
+        if lower.first != lower.second {
+            return Front {
+                at,
+                relation: lower.relation,
+            };
         }
         left -= 1;
     }

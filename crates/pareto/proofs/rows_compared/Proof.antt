@@ -58,9 +58,9 @@ relation-of-requires c κs = search needs
 
 returns : tie.Need-returns Inv-loop μ-loop
 returns c =
-    let d = c .before .before in
-    let e : d .loop .k ≡ 8 = omega arith in
-    rw (c .relation-of .ensures, rw e at (d .loop .inv .1), rw e at (d .loop .inv .2))
+    let l = c .before .before .loop in
+    let e : l .k ≡ 8 = omega arith in
+    (rw e at (l .inv .1), rw e at (l .inv .2), c .relation-of .ensures)
 
 pub rows-compared-spec : {M : Type 1} → statement M
 rows-compared-spec =

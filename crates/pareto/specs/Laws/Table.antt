@@ -22,7 +22,7 @@ use Rattle.preference.specs.declared.PreferenceList.{PreferenceList}
 use Rattle.pareto.specs.Dominance.{noneAbove, someBelow, dominates}
 use Rattle.pareto.specs.Best.{vectorAt, rowDominates}
 use Rattle.pareto.specs.Checked.{rowsNumber}
-use Rattle.pareto.specs.Table.{tableEntry, tableOf, lower, relation, compared}
+use Rattle.pareto.specs.Table.{tableEntry, tableOf, lower, hasLower, relation, compared}
 use Rattle.pareto.specs.Laws.Dominance.{below-at, below-of}
 
 -- ---- vectors of at most eight parts
@@ -83,7 +83,7 @@ module _ (l : PreferenceList) (log : List ℤ) (e : listNumber l ≡ 0) (f : row
 
   -- 1 exactly where row a dominates row b
   pub compared-dominates : (a b : ℕ) → a < rowCount log → b < rowCount log → eqb (compared (tableOf l log) a b) 1 ≡ rowDominates l log a b
-  unfolding compared rowDominates dominates vectorAt
+  unfolding compared hasLower rowDominates dominates vectorAt
   compared-dominates a b h j =
       let va = vectorAt l log a in
       let vb = vectorAt l log b in

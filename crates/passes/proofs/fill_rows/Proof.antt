@@ -3,7 +3,7 @@ use mathlib.Core.List.{map}
 use Rattle.machine.specs.Machine.{unread}
 use Rattle.window.specs.Work.{entries}
 use Rattle.passes.specs.Passes.{allRows}
-use Rattle.passes.proofs.Running.{rows-none, rows-more}
+use Rattle.passes.proofs.Rows.{rows-none, rows-more}
 use borrow.Author.Needs.{needs}
 use native.Mathlib.Omega.{arith}
 use Prim.Native.Nat.{_≤_, _-_}

@@ -1,13 +1,12 @@
 use borrow.Author.Needs.{needs}
 use native.Mathlib.Omega.{arith}
 use Prim.Native.Nat.{ℕ, _≤_, _<_, _-_, _+_}
-use mathlib.Core.Path.{_≡_}
+use mathlib.Core.Path.{_≡_, _∙_}
 use mathlib.Core.Bool.{true}
-use borrow.Author.Tests.{ne-eqb}
 use borrow.Author.Count.{below-more}
 use Rattle.machine.specs.Machine.{spares}
 use Rattle.window.specs.Work.{tableDominates, entryAt, Undropped}
-use Rattle.window.proofs.Scanning.{undropped-start, undropped-more, misses, spared-by}
+use Rattle.window.proofs.Scanning.{same-bools, apart-undropped, apart-spared, undropped-start, undropped-more}
 use Rattle.window.proofs.apart.Statement.{statement}
 use Rattle.window.proofs.apart.Tie as tie
 
@@ -29,13 +28,16 @@ loop-holds c =
 sub-at : tie.Need-sub-at Inv-loop μ-loop
 sub-at c = search needs
 
-entry-compared-requires : tie.Need-entry-compared-requires Inv-loop μ-loop
-entry-compared-requires c κs = search needs
+entry-row-requires : tie.Need-entry-row-requires Inv-loop μ-loop
+entry-row-requires c κs = search needs
+
+lower-levels-requires : tie.Need-lower-levels-requires Inv-loop μ-loop
+lower-levels-requires c κs = search needs
 
 returns : tie.Need-returns Inv-loop μ-loop
 returns c =
-    let l = c .before .before .before .loop in
-    record { undropped = l .inv .1; spared = l .inv .2; next = c .before .entry-compared .ensures }
+    let l = c .before .before .before .before .before .loop in
+    record { undropped = l .inv .1; spared = l .inv .2; next = λ h. rw (c .before .before .before .entry-row .ensures) at (c .before .before .lower-levels .ensures .2) }
 
 sub-left : tie.Need-sub-left Inv-loop μ-loop
 sub-left c = search needs
@@ -45,19 +47,18 @@ loop-less c = search needs
 
 loop-again : tie.Need-loop-again Inv-loop μ-loop
 loop-again c =
-    let l = c .before .before .before .loop in
-    let a = c .before .before .before .before .before .before .args in
+    let l = c .before .before .before .before .before .loop in
+    let a = c .before .before .before .before .before .before .before .before .args in
     let t = a .table .now in
     let at = a .held - l .left in
-    let v = c .before .entry-compared .result in
-    let h : at < a .held = omega arith in
-    let seen = c .before .entry-compared .ensures h in
-    let q : v ≡ 3 = c .if1 .left in
+    let r = c .before .before .lower-levels in
+    let e = rw (c .before .before .before .entry-row .ensures) at (r .ensures) in
+    let s = same-bools (r .result .first) (r .result .second) (c .if1 .left) in
     let next : a .held - (l .left - 1) ≡ at + 1 = omega arith in
     rw next (
       omega arith,
-      undropped-more (tableDominates t) (a .row) (a .work .now) (a .held) (l .inv .1) h (misses t (a .work .now) (a .row) at v seen (λ x. omega arith)),
-      below-more (λ (j : ℕ). spares (tableDominates t) (a .row) (entryAt (a .work .now) j) ≡ true) at (l .inv .2) (spared-by t (a .work .now) (a .row) at v seen (ne-eqb v 2 (λ x. omega arith))),
+      undropped-more (tableDominates t) (a .row) (a .work .now) (a .held) (l .inv .1) (omega arith) (apart-undropped t (a .work .now) (a .row) at _ (e .0) (s ∙ e .1)),
+      below-more (λ (j : ℕ). spares (tableDominates t) (a .row) (entryAt (a .work .now) j) ≡ true) at (l .inv .2) (apart-spared t (a .work .now) (a .row) at _ (e .0) (s ∙ e .1)),
     )
 
 returns-2 : tie.Need-returns-2 Inv-loop μ-loop
@@ -75,7 +76,8 @@ apart-spec =
     μ-loop
     loop-holds
     sub-at
-    entry-compared-requires
+    entry-row-requires
+    lower-levels-requires
     returns
     sub-left
     loop-less
