@@ -2,52 +2,21 @@
 use Prim.Native.Nat.{ℕ, _+_, _-_, _*_, _≤_, _<_}
 use native.Mathlib.Omega.{arith}
 use native.Mathlib.Decide.{ℕ-discrete}
-use mathlib.Core.Path.{_≡_, refl, sym, ap, _∙_}
-use mathlib.Core.Bool.{Bool, true, false, not, _||_, Bool·beq, true≢false}
+use mathlib.Core.Path.{_≡_}
+use mathlib.Core.Bool.{Bool, true, false, not, _||_, true≢false}
 use mathlib.Core.List.{List}
 use lib.Dec.{eqb}
 use lib.ListN.{getD, set, length}
 use lib.Seq.{getD-set-same, getD-set-other}
 use borrow.Author.Count.{below-more}
-use borrow.Author.Tests.{eq-eqb, ne-eqb, not-false}
 use Rattle.laws.specs.Lists.{anyOf}
 use Rattle.laws.specs.Laws.Bools.{neither}
-use Rattle.pareto.specs.Table.{hasLower, compared, relation}
+use Rattle.pareto.specs.Table.{compared}
 use Rattle.machine.specs.Machine.{Entry, dominated, compares, spares}
 use Rattle.window.specs.Work.{tableDominates, entryAt, entries, Undropped, Fronted, Scanned}
 use Rattle.window.specs.declared.Front.{Front}
 use Rattle.window.specs.Laws.Entries.{entries-step, entries-done}
-
--- one compare tells both ways
-turned : (first second : Bool) → eqb (relation first second) 2 ≡ eqb (relation second first) 1
-turned true true = refl
-turned true false = refl
-turned false true = refl
-turned false false = refl
-
-pub compared-turned : (t : List ℕ) (a b : ℕ) → eqb (compared t a b) 2 ≡ tableDominates t b a
-unfolding compared tableDominates
-compared-turned t a b = turned (hasLower t a b) (hasLower t b a)
-
-pub same-bools : (a b : Bool) → not (Bool·beq a b) ≡ false → a ≡ b
-same-bools true true e = refl
-same-bools true false e = absurd (true≢false e)
-same-bools false true e = absurd (true≢false e)
-same-bools false false e = refl
-
--- two rows that both have a lower level, or both none, are apart
-module _ (t l : List ℕ) (r i : ℕ) (b : Bool) (p : b ≡ hasLower t (getD l (2 * i) 0) r) (q : b ≡ hasLower t r (getD l (2 * i) 0)) where
-  even : (d : Bool) → eqb (relation d d) 1 ≡ false
-  even true = refl
-  even false = refl
-
-  pub apart-undropped : tableDominates t (getD l (2 * i) 0) r ≡ false
-  unfolding tableDominates compared
-  apart-undropped = rw (← p, ← q) (even b)
-
-  pub apart-spared : spares (tableDominates t) r (entryAt l i) ≡ true
-  unfolding tableDominates compared spares entryAt
-  apart-spared = rw (← p, ← q) (ap not (even b))
+use Rattle.window.proofs.Comparing.{hits, misses, flag-value, spared-by}
 
 -- ---- the entries that do not dominate the row, one by one
 
@@ -67,28 +36,6 @@ module _ (dom : ℕ → ℕ → Bool) (r : ℕ) (l : List ℕ) (n : ℕ) where
     pub undropped-end : n ≤ i → (false ≡ dominated dom r (entries l 0 n)) × (n ≡ compares dom r (entries l 0 n))
     unfolding dominated compares anyOf
     undropped-end h = (rw (entries-done l i n h) at (z .dominated-left), omega (arith, z .within, rw (entries-done l i n h) at (z .compares-left)))
-
--- ---- what the compare v with entry i tells
-
-module _ (t l : List ℕ) (r i v : ℕ) (e : v ≡ compared t (getD l (2 * i) 0) r) where
-  pub hits : v ≡ 1 → tableDominates t (getD l (2 * i) 0) r ≡ true
-  unfolding tableDominates
-  hits q = eq-eqb _ 1 (sym e ∙ q)
-
-  pub misses : (v ≡ 1 → ⊥) → tableDominates t (getD l (2 * i) 0) r ≡ false
-  unfolding tableDominates
-  misses q = ne-eqb _ 1 (λ x. q (e ∙ x))
-
-  pub flag-value : eqb v 2 ≡ not (spares (tableDominates t) r (entryAt l i))
-  unfolding spares entryAt
-  flag-value = rw e (compared-turned t (getD l (2 * i) 0) r ∙ twice (tableDominates t r (getD l (2 * i) 0)))
-    where
-      twice : (b : Bool) → b ≡ not (not b)
-      twice true = refl
-      twice false = refl
-
-  pub spared-by : eqb v 2 ≡ false → spares (tableDominates t) r (entryAt l i) ≡ true
-  spared-by q = not-false (spares (tableDominates t) r (entryAt l i)) (sym flag-value ∙ q)
 
 -- the flags from place s on, and one more
 pub told-more : (p : Entry → Bool) (l : List ℕ) (s i : ℕ) (f : List ℕ) (v : ℕ) → ((j : ℕ) → s ≤ j → j < i → eqb (getD f j 0) 2 ≡ not (p (entryAt l j))) → i < length f → eqb v 2 ≡ not (p (entryAt l i))

@@ -6,7 +6,8 @@ use mathlib.Core.Bool.{true}
 use borrow.Author.Count.{below-more}
 use Rattle.machine.specs.Machine.{spares}
 use Rattle.window.specs.Work.{tableDominates, entryAt, Undropped}
-use Rattle.window.proofs.Scanning.{same-bools, apart-undropped, apart-spared, undropped-start, undropped-more}
+use Rattle.window.proofs.Comparing.{same-bools, apart-undropped, apart-spared}
+use Rattle.window.proofs.Scanning.{undropped-start, undropped-more}
 use Rattle.window.proofs.apart.Statement.{statement}
 use Rattle.window.proofs.apart.Tie as tie
 
