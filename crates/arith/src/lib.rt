@@ -49,3 +49,10 @@ pub fn same(a: i32, b: i32) -> bool
 {
     a == b
 }
+
+// A byte copied out of a struct is widened here, where its range is known.
+pub fn wide(x: u8) -> usize
+    ensures { λ r. ⌜ r ≡ x ⌝ }
+{
+    x as usize
+}

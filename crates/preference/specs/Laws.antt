@@ -2,6 +2,4 @@ pub mod Valid
 pub mod Level
 pub mod Parts
 pub mod Counted
-pub mod Rule
-pub mod Part
 pub mod Names

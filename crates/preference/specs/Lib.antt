@@ -2,5 +2,5 @@ pub mod List
 pub mod Valid
 pub mod Level
 pub mod Parts
-pub mod Rule
+pub mod Names
 pub mod Laws

@@ -1,12 +1,11 @@
 -- What the engines know of a preference list: the level vector of a run and the greatest level of each of its parts
 -- (document 01: "The engines know a wish only by its level and its M"). A preference gives a list of parts, here of one.
-use Prim.Native.Nat.{ℕ, zero, suc, _+_, _*_, _%_}
+use Prim.Native.Nat.{ℕ}
 use mathlib.Core.List.{List, [], _∷_}
 use lib.IntN.{ℤ, pos}
-use lib.ListN.{getD, set}
+use lib.ListN.{getD}
 use Rattle.laws.specs.First.{firstNumber}
 use Rattle.laws.specs.Lists.{joined}
-use Rattle.runs.specs.Log.{rowAt}
 use Rattle.preference.specs.List.{preferenceAt, places}
 use Rattle.preference.specs.Level.{levelAt, maxAt, valueNumber}
 use Rattle.preference.specs.declared.PreferenceList.{PreferenceList}
@@ -33,12 +32,3 @@ maxLevels l = joined (maxParts l) (places l)
 -- 8 for a run: one of its values lies outside the bounds of its preference
 unfoldable pub rowNumber : PreferenceList → List ℤ → ℕ
 rowNumber l row = firstNumber (λ i. valueNumber l i (rowValue l row i)) (places l)
-
--- part k of the level vector of row r of a log, in 16 bits: what a level table holds
-abbrev pub partAt : PreferenceList → List ℤ → ℕ → ℕ → ℕ
-partAt l log k r = getD (levels l (rowAt log r)) k 0 % 65536
-
--- a table, eight places to a row, with part k of its first n rows set to f 0, .., f (n - 1)
-unfoldable pub withPart : (ℕ → ℕ) → ℕ → ℕ → List ℕ → List ℕ
-withPart f k zero table = table
-withPart f k (suc n) table = set (withPart f k n table) (8 * n + k) (f n)

@@ -2,7 +2,7 @@
 use constructor::Constructor;
 use constructor::Layering;
 ghost use mathlib.Core.Path.{_≡_};
-ghost use Prim.Native.Nat.{_+_, _-_, _/_, _<_, _≤_, min};
+ghost use Prim.Native.Nat.{_+_, _-_, _<_, _≤_, min};
 ghost use lib.IntN.{pos};
 ghost use lib.ListN.{getD, length};
 ghost use lib.Dec.{eqb};
@@ -12,12 +12,11 @@ ghost use Rattle.constructor.specs.Valid.{layerNumber};
 ghost use Rattle.laws.specs.Checks.{_gives_, _then_};
 ghost use Rattle.laws.specs.First.{firstNumber};
 ghost use Rattle.laws.specs.Outcome.{outcome};
-ghost use Rattle.runs.specs.Log.{rowAt};
 ghost use Rattle.preference.specs.List.{preferenceAt, places, names};
 ghost use Rattle.preference.specs.Valid.{taken, columnNumber, preferenceNumber, placeNumber, namedNumber, listNumber};
-ghost use Rattle.preference.specs.Level.{layerOf, levelAt, maxAt, valueNumber, levelNumber, outcomeOf};
-ghost use Rattle.preference.specs.Parts.{levels, maxLevels, rowNumber, partAt, withPart};
-ghost use Rattle.preference.specs.Rule.{among, NamesOf, ruleOf, Layered, RowsIn};
+ghost use Rattle.preference.specs.Level.{layerOf, levelAt, valueNumber, levelNumber, outcomeOf};
+ghost use Rattle.preference.specs.Parts.{levels, maxLevels, rowNumber};
+ghost use Rattle.preference.specs.Names.{among, NamesOf};
 
 // A wish: the column that it is about, and its form.
 pub struct Preference {
@@ -47,20 +46,11 @@ pub enum LevelAnswer {
     Refused(u8),
 }
 
-// The named values of one preference, in the list's order.
-struct Names {
-    count: usize,
-    values: [i32; 64],
-    layers: [u8; 64],
-}
-
-// What decides a part of a level vector: the values of a column, by their distance from low..up or by layers.
-struct Rule {
-    column: usize,
-    low: i32,
-    up: i32,
-    step: u32,
-    layering: Layering,
+// The named values of one preference, in the list's order: the first `count` places.
+pub struct Names {
+    pub count: usize,
+    pub values: [i32; 64],
+    pub layers: [u8; 64],
 }
 
 // ---- the check of a list
@@ -148,12 +138,6 @@ fn place_before(k: usize) -> usize
     if k == 0 { 0 } else { k - 1 }
 }
 
-fn wide(x: u8) -> usize
-    ensures { λ r. ⌜ r ≡ x ⌝ }
-{
-    x as usize
-}
-
 // The named value at place k: 3 for no such preference or one before the last named value's, then its layer's number.
 fn named_number(list: PreferenceList, k: usize) -> u8
     requires { ⌜ (list .count ≤ 8) × (k < 64) ⌝ }
@@ -161,7 +145,7 @@ fn named_number(list: PreferenceList, k: usize) -> u8
 {
     let e = list.named[k];
     let owner = e.preference;
-    let at = wide(owner);
+    let at = arith::wide(owner);
     let count = list.count as usize;
     if count <= at {
         return 3;
@@ -230,7 +214,7 @@ fn place_after(m: usize, owner: usize, i: usize) -> usize
 }
 
 // The named values of the preference at place i, so that whoever asks for many layers reads the list once.
-fn names_of(list: PreferenceList, i: usize) -> Names
+pub fn names_of(list: PreferenceList, i: usize) -> Names
     ensures { λ r. ⌜ NamesOf list i r ⌝ }
 {
     let n = held_names(list);
@@ -244,7 +228,7 @@ fn names_of(list: PreferenceList, i: usize) -> Names
         let value = e.value;
         values[m] = value;
         layers[m] = e.layer;
-        m = place_after(m, wide(owner), i);
+        m = place_after(m, arith::wide(owner), i);
         k += 1;
     }
     Names {
@@ -254,13 +238,22 @@ fn names_of(list: PreferenceList, i: usize) -> Names
     }
 }
 
+fn least(n: usize, a: usize, b: usize) -> usize
+    ensures { λ r. ⌜ r ≡ min n (min a b) ⌝ }
+{
+    if a <= b {
+        return if n <= a { n } else { a };
+    }
+    if n <= b { n } else { b }
+}
+
 // The layer of the first of n values that is v, or that of other values.
-fn layer_among(values: &[i32], layers: &[u8], n: usize, v: i32, others: u8) -> u8
-    requires { ⌜ (n ≤ length (now values)) × (n ≤ length (now layers)) ⌝ }
+pub fn layer_among(values: &[i32], layers: &[u8], n: usize, v: i32, others: u8) -> u8
     ensures { λ r. ⌜ r ≡ among (now (values .entry)) (now (layers .entry)) n v others ⌝ }
 {
+    let held = least(n, values.len(), layers.len());
     let mut k: usize = 0;
-    while k < n {
+    while k < held {
         let value = values[k];
         if arith::same(value, v) {
             return layers[k];
@@ -305,13 +298,6 @@ fn level_at(list: PreferenceList, i: usize, v: i32) -> u64
     }
 }
 
-fn max_at(list: PreferenceList, i: usize) -> u64
-    ensures { λ r. ⌜ r ≡ maxAt list i ⌝ }
-{
-    let c = constructor_at(list, i);
-    constructor::max_level(c)
-}
-
 // 8 where v lies outside the bounds of the preference at place i.
 fn value_number(list: PreferenceList, i: usize, v: i32) -> u8
     ensures { λ r. ⌜ r ≡ valueNumber list i v ⌝ }
@@ -350,7 +336,7 @@ fn held_places(list: PreferenceList) -> usize
 }
 
 // The value at a column of a run; 0 past the run's end.
-fn value_in(row: &[i32], column: usize) -> i32
+pub fn value_in(row: &[i32], column: usize) -> i32
     ensures { λ r. ⌜ r ≡ getD (now (row .entry)) column (pos 0) ⌝ }
 {
     if column < row.len() { row[column] } else { 0 }
@@ -361,7 +347,7 @@ fn run_value(p: Preference, row: &[i32]) -> i32
     ensures { λ r. ⌜ r ≡ getD (now (row .entry)) (p .column) (pos 0) ⌝ }
 {
     let column = p.column;
-    value_in(row, wide(column))
+    value_in(row, arith::wide(column))
 }
 
 // The number of the parts of every level vector.
@@ -389,7 +375,8 @@ pub fn part_max(list: PreferenceList, k: usize) -> u64
     if held_places(list) <= k {
         return 0;
     }
-    max_at(list, k)
+    let c = constructor_at(list, k);
+    constructor::max_level(c)
 }
 
 // 8 where the run's value lies outside the bounds of a preference.
@@ -416,111 +403,4 @@ pub fn row_number(list: PreferenceList, row: &[i32]) -> u8
         i += 1;
     }
     0
-}
-
-// ---- a part of the level vectors of a log
-
-// What decides part k of a level vector. Past the last part the step is 0, and so is every level.
-fn rule_of(list: PreferenceList, k: usize) -> Rule
-    ensures { λ r. ⌜ r ≡ ruleOf list k ⌝ }
-{
-    if held_places(list) <= k {
-        return Rule {
-            column: 0,
-            low: 0,
-            up: 0,
-            step: 0,
-            layering: Layering::Numeric,
-        };
-    }
-    let p = list.preferences[k];
-    let column = p.column;
-    let c = p.constructor;
-    let t = constructor::target_of(c);
-    let low = t.low;
-    let up = t.up;
-    let s = constructor::scale_of(c);
-    let y = constructor::layering_of(c);
-    Rule {
-        column: wide(column),
-        low: low,
-        up: up,
-        step: s.step,
-        layering: y,
-    }
-}
-
-// The rows of a log of which part k has a place in a table.
-fn rows_in(log: usize, table: usize, k: usize) -> usize
-    ensures { λ r. ⌜ RowsIn (log / 8) table k r ⌝ }
-{
-    if table <= k {
-        return 0;
-    }
-    let held = (table - k - 1) / 8 + 1;
-    let rows = log / 8;
-    if rows <= held { rows } else { held }
-}
-
-// The value at a column of row r, which is handed on as the part of the log that begins at 8 × its number.
-fn value_at(log: &[i32], r: usize, column: usize) -> i32
-    requires { ⌜ r < length (now log) / 8 ⌝ }
-    ensures { λ v. ⌜ v ≡ getD (rowAt (now (log .entry)) r) column (pos 0) ⌝ }
-{
-    let start = 8 * r;
-    let end = start + 8;
-    value_in(&log[start..end], column)
-}
-
-// Part k of a form that goes by distance: for each row a value, two differences, a division and a store.
-fn fill_distances(list: PreferenceList, log: &[i32], k: usize, table: &mut [u16])
-    requires { ⌜ ruleOf list k .layering ≡ Layering.Numeric ⌝ }
-    ensures { λ _. ⌜ now (table .exit) ≡ withPart (partAt list (now (log .entry)) k) k (length (now (log .entry)) / 8) (now (table .entry)) ⌝ }
-{
-    let rule = rule_of(list, k);
-    let column = rule.column;
-    let low = rule.low;
-    let up = rule.up;
-    let step = rule.step;
-    let n = rows_in(log.len(), table.len(), k);
-    let mut r: usize = 0;
-    while r < n {
-        let v = value_at(log, r, column);
-        let level = constructor::level_outside(low, up, step, v);
-        table[8 * r + k] = (level % 65536) as u16;
-        r += 1;
-    }
-}
-
-// Part k of a form with layers.
-fn fill_layers(list: PreferenceList, log: &[i32], k: usize, others: u8, table: &mut [u16])
-    requires { ⌜ Layered list k others ⌝ }
-    ensures { λ _. ⌜ now (table .exit) ≡ withPart (partAt list (now (log .entry)) k) k (length (now (log .entry)) / 8) (now (table .entry)) ⌝ }
-{
-    let rule = rule_of(list, k);
-    let column = rule.column;
-    let names = names_of(list, k);
-    let values = names.values;
-    let layers = names.layers;
-    let count = names.count;
-    let n = rows_in(log.len(), table.len(), k);
-    let mut r: usize = 0;
-    while r < n {
-        let v = value_at(log, r, column);
-        let layer = layer_among(&values, &layers, count, v, others);
-        table[8 * r + k] = layer as u16;
-        r += 1;
-    }
-}
-
-// Sets part k of the rows of a table, eight places to a row, to part k of the level vectors of a log, in 16 bits.
-pub fn fill_part(list: PreferenceList, log: &[i32], k: usize, table: &mut [u16])
-    ensures { λ _. ⌜ now (table .exit) ≡ withPart (partAt list (now (log .entry)) k) k (length (now (log .entry)) / 8) (now (table .entry)) ⌝ }
-{
-    let rule = rule_of(list, k);
-    let y = rule.layering;
-    match y {
-        Layering::Numeric => fill_distances(list, log, k, table),
-        Layering::Layers { top: _, others } => fill_layers(list, log, k, others, table),
-    }
 }

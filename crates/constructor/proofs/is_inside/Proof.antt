@@ -1,8 +1,6 @@
 use Rattle.arith.specs.Laws.Local.{num}
 use Rattle.constructor.specs.Level.{inside}
 use borrow.Author.Needs.{needs}
-use Prim.Native.Nat.{_-_}
-use borrow.Author.Needs.{needs}
 use Rattle.constructor.proofs.is_inside.Statement.{statement}
 use Rattle.constructor.proofs.is_inside.Tie as tie
 

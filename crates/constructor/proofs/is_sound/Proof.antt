@@ -2,8 +2,6 @@ use Rattle.arith.specs.Laws.Local.{num}
 use mathlib.Core.Path.{sym, ap}
 use Rattle.constructor.specs.Valid.{sound}
 use borrow.Author.Needs.{needs}
-use Prim.Native.Nat.{_-_}
-use borrow.Author.Needs.{needs}
 use Rattle.constructor.proofs.is_sound.Statement.{statement}
 use Rattle.constructor.proofs.is_sound.Tie as tie
 

@@ -5,7 +5,6 @@ use Rattle.constructor.specs.Valid.{layerNumber, numberUnder}
 use Rattle.constructor.specs.declared.Layering.{Layering}
 use borrow.Author.Needs.{needs}
 use Prim.Native.Nat.{_-_}
-use borrow.Author.Needs.{needs}
 use Rattle.constructor.proofs.layer_number.Statement.{statement}
 use Rattle.constructor.proofs.layer_number.Tie as tie
 

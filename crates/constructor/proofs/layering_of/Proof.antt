@@ -1,8 +1,6 @@
 use mathlib.Core.Path.{sym, ap}
 use Rattle.constructor.specs.Level.{layeringOf}
 use borrow.Author.Needs.{needs}
-use Prim.Native.Nat.{_-_}
-use borrow.Author.Needs.{needs}
 use Rattle.constructor.proofs.layering_of.Statement.{statement}
 use Rattle.constructor.proofs.layering_of.Tie as tie
 

@@ -2,8 +2,6 @@ use mathlib.Core.Path.{sym, _∙_}
 use Rattle.arith.specs.Laws.Local.{num}
 use Rattle.constructor.specs.Level.{maxLevel}
 use borrow.Author.Needs.{needs}
-use Prim.Native.Nat.{_-_}
-use borrow.Author.Needs.{needs}
 use Rattle.constructor.proofs.max_level.Statement.{statement}
 use Rattle.constructor.proofs.max_level.Tie as tie
 

@@ -4,7 +4,6 @@ use Rattle.laws.specs.Checks.{_gives_, _then_}
 use Rattle.constructor.specs.Valid.{constructorNumber}
 use borrow.Author.Needs.{needs}
 use Prim.Native.Nat.{_-_}
-use borrow.Author.Needs.{needs}
 use Rattle.constructor.proofs.number.Statement.{statement}
 use Rattle.constructor.proofs.number.Tie as tie
 

@@ -2,8 +2,6 @@ use Rattle.arith.specs.Laws.Local.{num}
 use mathlib.Core.Path.{sym, ap}
 use Rattle.constructor.specs.Level.{scaleOf}
 use borrow.Author.Needs.{needs}
-use Prim.Native.Nat.{_-_}
-use borrow.Author.Needs.{needs}
 use Rattle.constructor.proofs.scale_of.Statement.{statement}
 use Rattle.constructor.proofs.scale_of.Tie as tie
 

@@ -5,7 +5,7 @@ use native.Mathlib.Omega.{arith}
 use mathlib.Core.Bool.{true, not, _&&_}
 use lib.Dec.{ltb, leb}
 use borrow.Author.Tests.{ltb-false, leb-true, not-false}
-use Rattle.laws.specs.Checks.{_gives_, _then_}
+use Rattle.laws.specs.Checks.{_gives_}
 use Rattle.laws.specs.Laws.Bools.{both}
 use Rattle.laws.specs.Laws.Checks.{gives-none, then-none}
 use Rattle.constructor.specs.Level.{maxLevel, layeringOf}

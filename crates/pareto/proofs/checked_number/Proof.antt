@@ -1,9 +1,6 @@
 use mathlib.Core.Path.{sym}
-use Rattle.laws.specs.Checks.{_then_}
 use Rattle.laws.specs.Laws.Checks.{then-first, then-next}
 use Rattle.pareto.specs.Checked.{checkedNumber}
-use borrow.Author.Needs.{needs}
-use Prim.Native.Nat.{_-_}
 use borrow.Author.Needs.{needs}
 use Rattle.pareto.proofs.checked_number.Statement.{statement}
 use Rattle.pareto.proofs.checked_number.Tie as tie

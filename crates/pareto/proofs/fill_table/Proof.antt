@@ -4,7 +4,7 @@ use lib.ListN.{length}
 use native.Mathlib.Numerals.{add-one}
 use native.Mathlib.Omega.{arith}
 use borrow.Author.Needs.{needs}
-use Rattle.preference.specs.Parts.{partAt}
+use Rattle.parts.specs.Table.{partAt}
 use Rattle.pareto.specs.Best.{vectorAt}
 use Rattle.pareto.specs.Table.{tableOf}
 use Rattle.pareto.specs.Laws.Filled.{withParts, parts-length, filled}

@@ -4,8 +4,7 @@ use mathlib.Core.Path.{ap, _∙_}
 use native.Mathlib.Nat.{add-sub-cancel-left}
 use Rattle.preference.specs.Parts.{rowNumber}
 use borrow.Author.Needs.{needs}
-use Prim.Native.Nat.{ℕ, _-_, _*_}
-use borrow.Author.Needs.{needs}
+use Prim.Native.Nat.{ℕ, _*_}
 use Rattle.pareto.proofs.row_at_number.Statement.{statement}
 use Rattle.pareto.proofs.row_at_number.Tie as tie
 

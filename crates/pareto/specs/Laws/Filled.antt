@@ -11,8 +11,8 @@ use lib.Seq.{sets, length-sets, ext-getD, getD-set-same, getD-set-other}
 use Rattle.laws.specs.Lists.{joined}
 use Rattle.laws.specs.Laws.Joined.{singles-length}
 use Rattle.laws.specs.Laws.Stores.{sets-append}
-use Rattle.preference.specs.Parts.{withPart}
-use Rattle.preference.specs.Laws.Part.{with-part-length}
+use Rattle.parts.specs.Table.{withPart}
+use Rattle.parts.specs.Laws.Part.{with-part-length}
 
 -- parts 0 to k - 1 of n rows, f k r for part k of row r
 unfoldable pub withParts : (ℕ → ℕ → ℕ) → ℕ → ℕ → List ℕ → List ℕ

@@ -5,10 +5,9 @@ use Rattle.preference.specs.List.{zeroPreference}
 use Rattle.preference.specs.declared.Preference.{Preference}
 use borrow.Author.Needs.{needs}
 use native.Mathlib.Omega.{arith}
-use Prim.Native.Nat.{_≤_, _-_}
+use Prim.Native.Nat.{_≤_}
 use mathlib.Core.Path.{_≡_}
 use lib.ListN.{length}
-use borrow.Author.Needs.{needs}
 use Rattle.preference.proofs.constructor_at.Statement.{statement}
 use Rattle.preference.proofs.constructor_at.Tie as tie
 

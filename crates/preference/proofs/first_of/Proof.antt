@@ -1,6 +1,5 @@
 use mathlib.Core.Path.{sym}
 use Rattle.laws.specs.Laws.Checks.{then-first, then-next}
-use Prim.Native.Nat.{_-_}
 use Rattle.preference.proofs.first_of.Statement.{statement}
 use Rattle.preference.proofs.first_of.Tie as tie
 

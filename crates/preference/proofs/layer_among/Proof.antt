@@ -21,10 +21,13 @@ abbrev isValue : List ℤ → ℤ → ℕ → Bool
 isValue values v j = eqZ (getD values j (pos 0)) v
 
 abbrev Inv-loop : tie.InvT-loop
-Inv-loop values layers n v others k₀ k = (k ≤ n) × (firstAt (isValue values (toZ w32 v)) k ≡ k)
+Inv-loop values layers n v others held k₀ k = (k ≤ held) × (firstAt (isValue values (toZ w32 v)) k ≡ k)
 
 abbrev μ-loop : tie.MeasureT-loop
-μ-loop values layers n v others k₀ k = n - k
+μ-loop values layers n v others held k₀ k = held - k
+
+least-requires : tie.Need-least-requires Inv-loop μ-loop
+least-requires c κs = search needs
 
 loop-holds : tie.Need-loop-holds Inv-loop μ-loop
 unfolding firstAt
@@ -46,12 +49,14 @@ returns : tie.Need-returns Inv-loop μ-loop
 returns c =
     let b = c .before .before in
     let d = b .before .before .before in
-    let a = d .before .before in
+    let a = d .before .before .before in
+    let h = d .before .least in
     let p = isValue (a .args .values .now) (a .args .v) in
     let n = num (a .args .v) (a .fits .v .sfits) in
     let y : p (d .loop .k) ≡ true = sym (rw (num _ (b .before .value .given), n) at (b .same .ensures)) ∙ c .before .if1 .taken in
-    let e = search-hit p (d .loop .k) (a .args .n) (rw n at (d .loop .inv .1)) y (b .before .before .loop-test .taken) in
-    rw (e, lt-ltb (d .loop .k) (a .args .n) (b .before .before .loop-test .taken))
+    let l = b .before .before .loop-test .taken in
+    let e = search-hit p (d .loop .k) (h .result) (rw n at (d .loop .inv .1)) y l in
+    rw (← h .ensures, e, lt-ltb (d .loop .k) (h .result) l)
 
 add-k : tie.Need-add-k Inv-loop μ-loop
 add-k c = search needs
@@ -63,18 +68,22 @@ loop-again : tie.Need-loop-again Inv-loop μ-loop
 loop-again c =
     let b = c .before in
     let d = b .before .before .before in
-    let a = d .before .before in
-    (search needs, search-on (isValue (a .args .values .now) (toZ w32 (ofZ w32 (a .args .v)))) (d .loop .k) (d .loop .inv .1) (sym (rw (num _ (b .before .value .given)) at (b .same .ensures)) ∙ c .if1 .left))
+    let a = d .before .before .before in (
+      search needs,
+      search-on (isValue (a .args .values .now) (toZ w32 (ofZ w32 (a .args .v)))) (d .loop .k) (d .loop .inv .1)
+          (sym (rw (num _ (b .before .value .given)) at (b .same .ensures)) ∙ c .if1 .left),
+    )
 
 returns-2 : tie.Need-returns-2 Inv-loop μ-loop
 returns-2 c =
     let d = c .before in
-    let a = d .before .before in
+    let a = d .before .before .before in
+    let h = d .before .least in
     let p = isValue (a .args .values .now) (a .args .v) in
     let n = num (a .args .v) (a .fits .v .sfits) in
-    let e : d .loop .k ≡ a .args .n = omega arith in
-    let f : firstAt p (a .args .n) ≡ a .args .n = rw e at (rw n at (d .loop .inv .1)) in
-    rw (f, le-ltb (a .args .n) (a .args .n) (omega arith))
+    let e : d .loop .k ≡ h .result = omega arith in
+    let f : firstAt p (h .result) ≡ h .result = rw e at (rw n at (d .loop .inv .1)) in
+    rw (← h .ensures, f, le-ltb (h .result) (h .result) (omega arith))
 
 pub layer-among-spec : {M : Type 1} → statement M
 layer-among-spec =
@@ -82,6 +91,7 @@ layer-among-spec =
     (tie.spec
     Inv-loop
     μ-loop
+    least-requires
     loop-holds
     mul-value
     shared-slice-copy-out-value

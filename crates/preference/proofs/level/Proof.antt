@@ -10,8 +10,6 @@ use Rattle.preference.specs.Level.{levelAt, levelNumber, valueNumber}
 use Rattle.preference.specs.Laws.Level.{level-small}
 use borrow.Author.Needs.{needs}
 use native.Mathlib.Omega.{arith}
-use Prim.Native.Nat.{_-_}
-use borrow.Author.Needs.{needs}
 use Rattle.preference.proofs.level.Statement.{statement}
 use Rattle.preference.proofs.level.Tie as tie
 

@@ -3,8 +3,6 @@ use Rattle.arith.specs.Laws.Local.{num}
 use Rattle.constructor.specs.Level.{layeringOf}
 use Rattle.preference.specs.Level.{levelAt}
 use borrow.Author.Needs.{needs}
-use Prim.Native.Nat.{_-_}
-use borrow.Author.Needs.{needs}
 use Rattle.preference.proofs.level_at.Statement.{statement}
 use Rattle.preference.proofs.level_at.Tie as tie
 

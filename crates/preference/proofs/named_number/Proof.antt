@@ -3,7 +3,6 @@ use Rattle.laws.specs.Checks.{_gives_, _then_}
 use Rattle.preference.specs.Valid.{namedNumber}
 use borrow.Author.Needs.{needs}
 use Prim.Native.Nat.{_-_}
-use borrow.Author.Needs.{needs}
 use Rattle.preference.proofs.named_number.Statement.{statement}
 use Rattle.preference.proofs.named_number.Tie as tie
 

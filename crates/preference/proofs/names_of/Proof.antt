@@ -1,5 +1,5 @@
 use mathlib.Core.Path.{_≡_, refl, _∙_}
-use Prim.Native.Nat.{_≤_, _<_, _-_}
+use Prim.Native.Nat.{_≤_, _<_, _-_, min}
 use lib.ListN.{length, length-set}
 use borrow.Author.Needs.{needs}
 use native.Mathlib.Omega.{arith}
@@ -71,12 +71,8 @@ unfolding layerOf
 returns c =
     let d = c .before in
     let e : d .loop .k ≡ d .before .held-names .result = omega arith in
-    record {
-      few = omega (arith, d .loop .inv .4 .few);
-      values-long = d .loop .inv .2;
-      layers-long = d .loop .inv .3;
-      layer = λ v others. rw (e ∙ d .before .held-names .ensures) at (d .loop .inv .4 .layer v others);
-    }
+    let m : min (d .loop .m) (min (length (d .loop .values)) (length (d .loop .layers))) ≡ d .loop .m = omega (arith, d .loop .inv .4 .few) in
+    record { layer = λ v others. rw (m, ← d .before .held-names .ensures, ← e) (d .loop .inv .4 .layer v others) }
 
 pub names-of-spec : {M : Type 1} → statement M
 names-of-spec =

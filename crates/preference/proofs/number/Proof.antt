@@ -7,7 +7,6 @@ use Rattle.laws.specs.Laws.Checks.{then-first, then-next}
 use Rattle.preference.specs.Valid.{listNumber}
 use borrow.Author.Needs.{needs}
 use Prim.Native.Nat.{_-_}
-use borrow.Author.Needs.{needs}
 use Rattle.preference.proofs.number.Statement.{statement}
 use Rattle.preference.proofs.number.Tie as tie
 

@@ -1,7 +1,7 @@
 use mathlib.Core.Path.{sym, _∙_}
 use borrow.Author.Needs.{needs}
 use Rattle.arith.specs.Laws.Local.{num}
-use Rattle.preference.specs.Laws.Rule.{part-held, part-past}
+use Rattle.preference.specs.Laws.Parts.{part-held, part-past}
 use Rattle.preference.proofs.part_level.Statement.{statement}
 use Rattle.preference.proofs.part_level.Tie as tie
 

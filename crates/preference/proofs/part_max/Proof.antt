@@ -1,10 +1,9 @@
-use mathlib.Core.Path.{sym, _∙_}
+use mathlib.Core.Path.{sym, ap, _∙_}
+use Rattle.constructor.specs.Level.{maxLevel}
 use Rattle.preference.specs.List.{places}
 use Rattle.preference.specs.Level.{maxAt}
 use Rattle.preference.specs.Parts.{maxLevels}
 use Rattle.laws.specs.Laws.Joined.{singles-at, singles-past}
-use borrow.Author.Needs.{needs}
-use Prim.Native.Nat.{_-_}
 use borrow.Author.Needs.{needs}
 use Rattle.preference.proofs.part_max.Statement.{statement}
 use Rattle.preference.proofs.part_max.Tie as tie
@@ -18,15 +17,20 @@ returns c =
     let a = c .before .before .args in
     sym (singles-past (maxAt (a .list)) (places (a .list)) (a .k) (rw (c .before .held-places .ensures) at (c .if1 .taken)))
 
-max-at-requires : tie.Need-max-at-requires
-max-at-requires c κs = search needs
+constructor-at-requires : tie.Need-constructor-at-requires
+constructor-at-requires c κs = search needs
+
+max-level-requires : tie.Need-max-level-requires
+max-level-requires c κs = search needs
 
 returns-2 : tie.Need-returns-2
-unfolding maxLevels
+unfolding maxLevels maxAt
 returns-2 c =
-    let b = c .before in
+    let b = c .before .before in
     let a = b .before .before .args in
-    c .max-at .ensures ∙ sym (singles-at (maxAt (a .list)) (places (a .list)) (a .k) (rw (b .before .held-places .ensures) at (b .if1 .left)))
+    c .max-level .ensures
+    ∙ ap maxLevel (c .before .constructor-at .ensures)
+    ∙ sym (singles-at (maxAt (a .list)) (places (a .list)) (a .k) (rw (b .before .held-places .ensures) at (b .if1 .left)))
 
 pub part-max-spec : {M : Type 1} → statement M
-part-max-spec = tie.close (tie.spec held-places-requires returns max-at-requires returns-2)
+part-max-spec = tie.close (tie.spec held-places-requires returns constructor-at-requires max-level-requires returns-2)

@@ -1,7 +1,5 @@
 use Rattle.preference.specs.Valid.{preferenceNumber}
 use borrow.Author.Needs.{needs}
-use Prim.Native.Nat.{_-_}
-use borrow.Author.Needs.{needs}
 use Rattle.preference.proofs.preference_number.Statement.{statement}
 use Rattle.preference.proofs.preference_number.Tie as tie
 

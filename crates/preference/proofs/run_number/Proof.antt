@@ -1,6 +1,4 @@
 use borrow.Author.Needs.{needs}
-use Prim.Native.Nat.{_-_}
-use borrow.Author.Needs.{needs}
 use Rattle.preference.proofs.run_number.Statement.{statement}
 use Rattle.preference.proofs.run_number.Tie as tie
 use Rattle.arith.specs.Laws.Local.{num}

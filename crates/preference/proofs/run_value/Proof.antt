@@ -1,8 +1,6 @@
 use Rattle.arith.specs.Laws.Local.{num}
 use mathlib.Core.Path.{_∙_}
 use borrow.Author.Needs.{needs}
-use Prim.Native.Nat.{_-_}
-use borrow.Author.Needs.{needs}
 use Rattle.preference.proofs.run_value.Statement.{statement}
 use Rattle.preference.proofs.run_value.Tie as tie
 

@@ -3,8 +3,6 @@ use lib.ListN.{List·getD-eq-default}
 use mathlib.Core.Path.{sym}
 use borrow.Author.Needs.{needs}
 use native.Mathlib.Omega.{arith}
-use Prim.Native.Nat.{_-_}
-use borrow.Author.Needs.{needs}
 use Rattle.preference.proofs.value_in.Statement.{statement}
 use Rattle.preference.proofs.value_in.Tie as tie
 

@@ -4,8 +4,6 @@ use Rattle.laws.specs.Laws.Checks.{gives-yes, gives-no}
 use Rattle.preference.specs.Level.{valueNumber}
 use mathlib.Core.Bool.{not}
 use borrow.Author.Needs.{needs}
-use Prim.Native.Nat.{_-_}
-use borrow.Author.Needs.{needs}
 use Rattle.preference.proofs.value_number.Statement.{statement}
 use Rattle.preference.proofs.value_number.Tie as tie
 

@@ -14,7 +14,7 @@ use Rattle.laws.specs.First.{firstAt}
 use Rattle.arith.specs.Gap.{eqZ}
 use Rattle.preference.specs.List.{namedAt}
 use Rattle.preference.specs.Level.{isNamed}
-use Rattle.preference.specs.Rule.{pick, among}
+use Rattle.preference.specs.Names.{pick, lookUp}
 use Rattle.preference.specs.declared.PreferenceList.{PreferenceList}
 
 pick-more : (p : ℕ → Bool) (g : ℕ → ℕ) (n other : ℕ) → pick p g (suc n) other ≡ pick p g n (cond (p n) (g n) other)
@@ -38,7 +38,7 @@ pick-cong p q g h (suc n) other e f =
 -- m of the first k named values are those of the preference at place i
 pub record Gathered (l : PreferenceList) (i k m : ℕ) (values : List ℤ) (layers : List ℕ) : Type 0 where
   pub few : m ≤ k
-  pub layer : (v : ℤ) (others : ℕ) → among values layers m v others ≡ pick (isNamed l i v) (λ j. namedAt l j .layer) k others
+  pub layer : (v : ℤ) (others : ℕ) → lookUp values layers m v others ≡ pick (isNamed l i v) (λ j. namedAt l j .layer) k others
 
 pub gathered-none : (l : PreferenceList) (i : ℕ) (values : List ℤ) (layers : List ℕ) → Gathered l i 0 0 values layers
 unfolding firstAt
@@ -46,7 +46,7 @@ gathered-none l i values layers = record { few = omega arith; layer = λ v other
 
 module _ (l : PreferenceList) (i k m : ℕ) (values : List ℤ) (layers : List ℕ) (g : Gathered l i k m values layers) (a : m < length values) (b : m < length layers) where
   -- what is put at place m changes nothing before it
-  put-same : (v : ℤ) (others : ℕ) → among (set values m (namedAt l k .value)) (set layers m (namedAt l k .layer)) m v others ≡ among values layers m v others
+  put-same : (v : ℤ) (others : ℕ) → lookUp (set values m (namedAt l k .value)) (set layers m (namedAt l k .layer)) m v others ≡ lookUp values layers m v others
   put-same v others =
       pick-cong _ _ _ _ m others
       (λ j h. ap (λ (x : ℤ). eqZ x v) (getD-set-other values m j (namedAt l k .value) (pos 0) (λ e. absurd (omega arith))))
@@ -65,12 +65,12 @@ module _ (l : PreferenceList) (i k m : ℕ) (values : List ℤ) (layers : List �
       next v others = rw (add-one k) (pick-more (isNamed l i v) (λ j. namedAt l j .layer) k others)
 
       go : (v : ℤ) (others : ℕ) (t : Bool) → eqb (namedAt l k .preference) i ≡ t
-          → among (set values m (namedAt l k .value)) (set layers m (namedAt l k .layer)) (cond t (m + 1) m) v others ≡ pick (isNamed l i v) (λ j. namedAt l j .layer) (k + 1) others
+          → lookUp (set values m (namedAt l k .value)) (set layers m (namedAt l k .layer)) (cond t (m + 1) m) v others ≡ pick (isNamed l i v) (λ j. namedAt l j .layer) (k + 1) others
       go v others true e =
           let values₁ = set values m (namedAt l k .value) in
           let layers₁ = set layers m (namedAt l k .layer) in
           let here = cond (eqZ (namedAt l k .value) v) (namedAt l k .layer) others in
-          let first : among values₁ layers₁ (suc m) v others ≡ among values₁ layers₁ m v here =
+          let first : lookUp values₁ layers₁ (suc m) v others ≡ lookUp values₁ layers₁ m v here =
           pick-more (λ j. eqZ (getD values₁ j (pos 0)) v) (λ j. getD layers₁ j 0) m others
           ∙ rw (getD-set-same values m (namedAt l k .value) (pos 0) a, getD-set-same layers m (namedAt l k .layer) 0 b) in
           rw (add-one m) (first ∙ put-same v here ∙ g .layer v here ∙ sym (next v others ∙ rw e))

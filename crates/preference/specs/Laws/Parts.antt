@@ -10,10 +10,10 @@ use lib.ListN.{getD, length, length-append}
 use Rattle.laws.specs.Laws.First.{number-zero}
 use Rattle.preference.specs.List.{places}
 use Rattle.preference.specs.Valid.{listNumber}
-use Rattle.preference.specs.Level.{maxAt, valueNumber}
+use Rattle.preference.specs.Level.{levelAt, maxAt, valueNumber}
 use Rattle.preference.specs.Parts.{rowValue, levelParts, maxParts, levels, maxLevels, rowNumber}
 use Rattle.laws.specs.Lists.{joined}
-use Rattle.laws.specs.Laws.Joined.{singles-length}
+use Rattle.laws.specs.Laws.Joined.{singles-length, singles-at, singles-past}
 use Rattle.preference.specs.Laws.Level.{level-most, max-small}
 use Rattle.preference.specs.Laws.Valid.{accepted, places-counted}
 use Rattle.preference.specs.declared.PreferenceList.{PreferenceList}
@@ -77,9 +77,23 @@ pub levels-length : (l : PreferenceList) (row : List ℤ) → length (levels l r
 unfolding levels maxLevels
 levels-length l row = joined-length (levelParts l row) (maxParts l) (places l) (λ i. refl)
 
-pub parts-few : (l : PreferenceList) → length (maxLevels l) ≤ 8
+-- a part for each preference that is held
+pub parts-held : (l : PreferenceList) → length (maxLevels l) ≡ places l
 unfolding maxLevels
-parts-few l = omega (arith, singles-length (maxAt l) (places l), min-le-right (l .count) 8)
+parts-held l = singles-length (maxAt l) (places l)
+
+pub parts-few : (l : PreferenceList) → length (maxLevels l) ≤ 8
+parts-few l = omega (arith, parts-held l, min-le-right (l .count) 8)
+
+module _ (l : PreferenceList) (row : List ℤ) (k : ℕ) where
+  -- a part that is held is the level under its preference, and one past the last is 0
+  pub part-held : k < places l → getD (levels l row) k 0 ≡ levelAt l k (rowValue l row k)
+  unfolding levels
+  part-held h = singles-at (λ i. levelAt l i (rowValue l row i)) (places l) k h
+
+  pub part-past : places l ≤ k → getD (levels l row) k 0 ≡ 0
+  unfolding levels
+  part-past h = singles-past (λ i. levelAt l i (rowValue l row i)) (places l) k h
 
 -- ---- an accepted list
 
@@ -88,8 +102,7 @@ module _ (l : PreferenceList) (e : listNumber l ≡ 0) where
   counted i h = omega (arith, places-counted l e)
 
   pub parts-some : 0 < length (maxLevels l)
-  unfolding maxLevels
-  parts-some = omega (arith, singles-length (maxAt l) (places l), places-counted l e, accepted l e .some)
+  parts-some = omega (arith, parts-held l, places-counted l e, accepted l e .some)
 
   pub max-levels-small : AllAtMost 65535 (maxLevels l)
   unfolding maxLevels

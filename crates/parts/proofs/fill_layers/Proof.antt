@@ -8,12 +8,14 @@ use borrow.Author.Needs.{needs}
 use native.Mathlib.Omega.{arith}
 use Rattle.arith.specs.Laws.Local.{num}
 use Rattle.runs.specs.Log.{rowAt}
-use Rattle.preference.specs.Parts.{levels, withPart, partAt}
-use Rattle.preference.specs.Rule.{among, RowsIn}
-use Rattle.preference.specs.Laws.Part.{with-part-more, with-part-end}
+use Rattle.preference.specs.Parts.{levels}
+use Rattle.parts.specs.Table.{withPart, partAt}
+use Rattle.preference.specs.Names.{among}
+use Rattle.parts.specs.Rule.{RowsIn}
+use Rattle.parts.specs.Laws.Part.{with-part-more, with-part-end}
 use Rattle.preference.specs.declared.PreferenceList.{PreferenceList}
-use Rattle.preference.proofs.fill_layers.Statement.{statement}
-use Rattle.preference.proofs.fill_layers.Tie as tie
+use Rattle.parts.proofs.fill_layers.Statement.{statement}
+use Rattle.parts.proofs.fill_layers.Tie as tie
 
 abbrev Inv-loop : tie.InvT-loop
 Inv-loop log k others table₀ column values layers count n r₀ table r =

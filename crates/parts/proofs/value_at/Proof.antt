@@ -5,8 +5,8 @@ use lib.IntN.{pos}
 use lib.ListN.{getD, take, drop}
 use borrow.Author.Needs.{needs}
 use Rattle.arith.specs.Laws.Local.{num}
-use Rattle.preference.proofs.value_at.Statement.{statement}
-use Rattle.preference.proofs.value_at.Tie as tie
+use Rattle.parts.proofs.value_at.Statement.{statement}
+use Rattle.parts.proofs.value_at.Tie as tie
 
 mul-start : tie.Need-mul-start
 mul-start c = search needs

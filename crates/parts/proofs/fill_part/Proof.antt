@@ -1,9 +1,9 @@
 use mathlib.Core.Path.{sym, ap, _∙_}
 use borrow.Author.Needs.{needs}
-use Rattle.preference.specs.Laws.Rule.{rule-layers}
-use Rattle.preference.specs.declared.Rule.{Rule}
-use Rattle.preference.proofs.fill_part.Statement.{statement}
-use Rattle.preference.proofs.fill_part.Tie as tie
+use Rattle.parts.specs.Laws.Rule.{rule-layers}
+use Rattle.parts.specs.declared.Rule.{Rule}
+use Rattle.parts.proofs.fill_part.Statement.{statement}
+use Rattle.parts.proofs.fill_part.Tie as tie
 
 rule-of-requires : tie.Need-rule-of-requires
 rule-of-requires c κs = search needs

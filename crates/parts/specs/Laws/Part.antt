@@ -8,8 +8,8 @@ use mathlib.Core.Logic.{⊎-elim}
 use mathlib.Core.List.{List}
 use lib.ListN.{length, set, length-set}
 use lib.Seq.{set-out}
-use Rattle.preference.specs.Parts.{withPart}
-use Rattle.preference.specs.Rule.{RowsIn}
+use Rattle.parts.specs.Table.{withPart}
+use Rattle.parts.specs.Rule.{RowsIn}
 
 module _ (f : ℕ → ℕ) (k : ℕ) (t : List ℕ) where
   pub with-part-more : (r : ℕ) → set (withPart f k r t) (8 * r + k) (f r) ≡ withPart f k (r + 1) t

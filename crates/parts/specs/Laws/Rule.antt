@@ -1,26 +1,26 @@
 -- The level of a run by the rule of a part.
 use mathlib.Core.Path.{_≡_, refl, sym, ap, _∙_}
-use Prim.Native.Nat.{ℕ, _+_, _<_, _≤_}
+use Prim.Native.Nat.{ℕ, _+_, _<_}
 use native.Mathlib.Omega.{arith}
 use mathlib.Core.Bool.{Bool, true, false}
 use mathlib.Core.List.{List}
 use lib.Dec.{leb}
 use lib.IntN.{ℤ, pos}
-use lib.ListN.{getD}
+use lib.ListN.{getD, length}
 use lib.Signed.{mag}
 use borrow.Author.Tests.{leb-true, leb-false}
-use Rattle.laws.specs.Laws.Joined.{singles-at, singles-past}
 use Rattle.arith.specs.Gap.{gap}
 use Rattle.arith.specs.Ceil.{ceilDiv}
 use Rattle.arith.specs.Laws.Ceil.{ceil-zero}
 use Rattle.constructor.specs.Level.{layeringOf, numericLevel}
 use Rattle.constructor.specs.Laws.Target.{distance-outside}
 use Rattle.constructor.specs.declared.Layering.the-variants.{Numeric, Layers}
-use Rattle.preference.specs.List.{preferenceAt, constructorAt, places}
+use Rattle.preference.specs.List.{preferenceAt, constructorAt}
 use Rattle.preference.specs.Level.{layerOf, levelAt}
-use Rattle.preference.specs.Parts.{levels, rowValue}
-use Rattle.preference.specs.Rule.{zeroRule, ruleFor, ruleOf}
+use Rattle.preference.specs.Laws.Parts.{parts-held, part-held, part-past}
+use Rattle.preference.specs.Parts.{levels, rowValue, maxLevels}
+use Rattle.parts.specs.Rule.{zeroRule, ruleFor, ruleOf}
 use Rattle.preference.specs.declared.PreferenceList.{PreferenceList}
 
 numeric-at : (l : PreferenceList) (i : ℕ) (v : ℤ) → layeringOf (constructorAt l i) ≡ Numeric → levelAt l i v ≡ numericLevel (constructorAt l i) v
 unfolding levelAt
@@ -31,45 +31,36 @@ unfolding levelAt
 layers-at l i v top others y = rw y
 
 module _ (l : PreferenceList) (row : List ℤ) (k : ℕ) where
-  -- a part that is held is the level under its preference, and one past the last is 0
-  pub part-held : k < places l → getD (levels l row) k 0 ≡ levelAt l k (rowValue l row k)
-  unfolding levels
-  part-held h = singles-at (λ i. levelAt l i (rowValue l row i)) (places l) k h
-
-  pub part-past : places l ≤ k → getD (levels l row) k 0 ≡ 0
-  unfolding levels
-  part-past h = singles-past (λ i. levelAt l i (rowValue l row i)) (places l) k h
-
-  rule-past : leb (places l) k ≡ true → ruleOf l k ≡ zeroRule
+  rule-past : leb (length (maxLevels l)) k ≡ true → ruleOf l k ≡ zeroRule
   unfolding ruleOf
   rule-past e = rw e
 
-  rule-held : leb (places l) k ≡ false → ruleOf l k ≡ ruleFor (preferenceAt l k)
+  rule-held : leb (length (maxLevels l)) k ≡ false → ruleOf l k ≡ ruleFor (preferenceAt l k)
   unfolding ruleOf
   rule-held e = rw e
 
   -- by distance
   pub rule-numeric : ruleOf l k .layering ≡ Numeric → (v : ℤ) → v ≡ getD row (ruleOf l k .column) (pos 0) → mag v < 2147483648
       → ceilDiv (gap (ruleOf l k .low) v + gap v (ruleOf l k .up)) (ruleOf l k .step) ≡ getD (levels l row) k 0
-  rule-numeric y v e h = go (leb (places l) k) refl
+  rule-numeric y v e h = go (leb (length (maxLevels l)) k) refl
     where
-      go : (t : Bool) → leb (places l) k ≡ t → ceilDiv (gap (ruleOf l k .low) v + gap v (ruleOf l k .up)) (ruleOf l k .step) ≡ getD (levels l row) k 0
-      go true b = rw (rule-past b) (ceil-zero (gap (pos 0) v + gap v (pos 0)) ∙ sym (part-past (leb-true (places l) k b)))
+      go : (t : Bool) → leb (length (maxLevels l)) k ≡ t → ceilDiv (gap (ruleOf l k .low) v + gap v (ruleOf l k .up)) (ruleOf l k .step) ≡ getD (levels l row) k 0
+      go true b = rw (rule-past b) (ceil-zero (gap (pos 0) v + gap v (pos 0)) ∙ sym (part-past l row k (rw (parts-held l) at (leb-true (length (maxLevels l)) k b))))
       go false b =
           let f = rule-held b in
           let c = constructorAt l k in
           rw (f, distance-outside c v h)
-          (ap (numericLevel c) (rw f at e) ∙ sym (part-held (leb-false (places l) k b) ∙ numeric-at l k (rowValue l row k) (rw f at y)))
+          (ap (numericLevel c) (rw f at e) ∙ sym (part-held l row k (rw (parts-held l) at (leb-false (length (maxLevels l)) k b)) ∙ numeric-at l k (rowValue l row k) (rw f at y)))
 
   -- by layers
   pub rule-layers : (top others : ℕ) → ruleOf l k .layering ≡ Layers top others → layerOf l k (getD row (ruleOf l k .column) (pos 0)) others ≡ getD (levels l row) k 0
-  rule-layers top others y = go (leb (places l) k) refl
+  rule-layers top others y = go (leb (length (maxLevels l)) k) refl
     where
-      go : (t : Bool) → leb (places l) k ≡ t → layerOf l k (getD row (ruleOf l k .column) (pos 0)) others ≡ getD (levels l row) k 0
+      go : (t : Bool) → leb (length (maxLevels l)) k ≡ t → layerOf l k (getD row (ruleOf l k .column) (pos 0)) others ≡ getD (levels l row) k 0
       go true b = let q : Numeric ≡ Layers top others = rw (rule-past b) at y in let z : _≡_ {A = ℕ} 0 1 = cc in absurd (omega arith)
       go false b =
           let f = rule-held b in
-          rw f (sym (part-held (leb-false (places l) k b) ∙ layers-at l k (rowValue l row k) top others (rw f at y)))
+          rw f (sym (part-held l row k (rw (parts-held l) at (leb-false (length (maxLevels l)) k b)) ∙ layers-at l k (rowValue l row k) top others (rw f at y)))
 
 -- part k goes by distance, with the figures of its rule
 pub record Ruled (l : PreferenceList) (k column : ℕ) (low up : ℤ) (step : ℕ) : Type 0 where

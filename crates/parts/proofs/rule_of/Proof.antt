@@ -1,22 +1,24 @@
 use borrow.Author.Tests.{le-leb, lt-leb}
+use native.Mathlib.Omega.{arith}
 use borrow.Author.Needs.{needs}
+use Rattle.preference.specs.Laws.Parts.{parts-few}
 use Rattle.arith.specs.Laws.Local.{num}
-use Rattle.preference.specs.Rule.{ruleOf}
-use Rattle.preference.proofs.rule_of.Statement.{statement}
-use Rattle.preference.proofs.rule_of.Tie as tie
+use Rattle.parts.specs.Rule.{ruleOf}
+use Rattle.parts.proofs.rule_of.Statement.{statement}
+use Rattle.parts.proofs.rule_of.Tie as tie
 
-held-places-requires : tie.Need-held-places-requires
-held-places-requires c κs = search needs
+parts-requires : tie.Need-parts-requires
+parts-requires c κs = search needs
 
 returns : tie.Need-returns
 unfolding ruleOf
-returns c = rw (le-leb _ _ (rw (c .before .held-places .ensures) at (c .if1 .taken)))
+returns c = rw (le-leb _ _ (rw (c .before .parts .ensures) at (c .if1 .taken)))
 
 mul-p : tie.Need-mul-p
-mul-p c = search needs
+mul-p c = omega (arith, parts-few (c .before .before .args .t1))
 
 element-copy-out-p : tie.Need-element-copy-out-p
-element-copy-out-p c = search needs
+element-copy-out-p c = omega (arith, parts-few (c .before .before .args .t1))
 
 target-of-requires : tie.Need-target-of-requires
 target-of-requires c κs = search needs
@@ -37,7 +39,7 @@ returns-2 c =
     let b = g .before .before in
     let k = c .before .before .before .before .struct-told .given in
     rw (
-      lt-leb _ _ (rw (b .before .held-places .ensures) at (b .if1 .left)),
+      lt-leb _ _ (rw (b .before .parts .ensures) at (b .if1 .left)),
       c .wide .ensures,
       c .before .layering-of .ensures,
       c .before .before .scale-of .ensures,
@@ -50,7 +52,7 @@ pub rule-of-spec : {M : Type 1} → statement M
 rule-of-spec =
     tie.close
     (tie.spec
-    held-places-requires
+    parts-requires
     returns
     mul-p
     element-copy-out-p

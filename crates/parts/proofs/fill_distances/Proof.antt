@@ -7,14 +7,14 @@ use borrow.Author.Needs.{needs}
 use native.Mathlib.Omega.{arith}
 use Rattle.arith.specs.Laws.Local.{num}
 use Rattle.runs.specs.Log.{rowAt}
-use Rattle.preference.specs.Parts.{withPart, partAt}
-use Rattle.preference.specs.Rule.{RowsIn}
-use Rattle.preference.specs.Laws.Rule.{Ruled, ruled-level}
-use Rattle.preference.specs.Laws.Part.{with-part-more, with-part-end}
+use Rattle.parts.specs.Table.{withPart, partAt}
+use Rattle.parts.specs.Rule.{RowsIn}
+use Rattle.parts.specs.Laws.Rule.{Ruled, ruled-level}
+use Rattle.parts.specs.Laws.Part.{with-part-more, with-part-end}
 use Rattle.preference.specs.declared.PreferenceList.{PreferenceList}
-use Rattle.preference.specs.declared.Rule.{Rule}
-use Rattle.preference.proofs.fill_distances.Statement.{statement}
-use Rattle.preference.proofs.fill_distances.Tie as tie
+use Rattle.parts.specs.declared.Rule.{Rule}
+use Rattle.parts.proofs.fill_distances.Statement.{statement}
+use Rattle.parts.proofs.fill_distances.Tie as tie
 
 abbrev Inv-loop : tie.InvT-loop
 Inv-loop log k table₀ column low up step n r₀ table r =

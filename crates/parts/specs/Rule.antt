@@ -1,0 +1,43 @@
+-- What decides a part of a level vector, and the rows that a table holds of a part.
+use Prim.Native.Nat.{ℕ, _+_, _*_, _<_, _≤_}
+use mathlib.Core.Path.{_≡_}
+use mathlib.Core.Bool.{cond}
+use mathlib.Core.List.{List}
+use lib.Dec.{leb}
+use lib.IntN.{ℤ, pos}
+use lib.ListN.{getD, length}
+use Rattle.constructor.specs.Level.{scaleOf, targetOf, layeringOf}
+use Rattle.constructor.specs.declared.Layering.the-variants.{Numeric}
+use Rattle.preference.specs.List.{preferenceAt}
+use Rattle.preference.specs.Level.{layerOf}
+use Rattle.preference.specs.Parts.{levels, maxLevels}
+use Rattle.preference.specs.declared.Preference.{Preference}
+use Rattle.preference.specs.declared.PreferenceList.{PreferenceList}
+use Rattle.parts.specs.declared.Rule.{Rule}
+
+abbrev pub ruleFor : Preference → Rule
+ruleFor p =
+    record {
+      column = p .column;
+      low = targetOf (p .constructor) .low;
+      up = targetOf (p .constructor) .up;
+      step = scaleOf (p .constructor) .step;
+      layering = layeringOf (p .constructor);
+    }
+
+abbrev pub zeroRule : Rule
+zeroRule = record { column = 0; low = pos 0; up = pos 0; step = 0; layering = Numeric }
+
+-- the rule of part k
+unfoldable pub ruleOf : PreferenceList → ℕ → Rule
+ruleOf l k = cond (leb (length (maxLevels l)) k) zeroRule (ruleFor (preferenceAt l k))
+
+-- part k is a layer, and others the layer of other values
+pub record Layered (l : PreferenceList) (k others : ℕ) : Type 0 where
+  pub level : (row : List ℤ) → layerOf l k (getD row (ruleOf l k .column) (pos 0)) others ≡ getD (levels l row) k 0
+
+-- m of n rows are those of which part k has a place in a table
+pub record RowsIn (n table k m : ℕ) : Type 0 where
+  pub few : m ≤ n
+  pub within : (r : ℕ) → r < m → 8 * r + k < table
+  pub beyond : (r : ℕ) → m ≤ r → r < n → table ≤ 8 * r + k

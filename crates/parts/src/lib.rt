@@ -1,0 +1,124 @@
+// A part of the level vectors of a log: what decides it is taken out of the list once, then one loop goes over the rows.
+use constructor::Layering;
+use preference::PreferenceList;
+ghost use mathlib.Core.Path.{_≡_};
+ghost use Prim.Native.Nat.{_/_, _<_};
+ghost use lib.IntN.{pos};
+ghost use lib.ListN.{getD, length};
+ghost use Rattle.runs.specs.Log.{rowAt};
+ghost use Rattle.parts.specs.Table.{partAt, withPart};
+ghost use Rattle.parts.specs.Rule.{ruleOf, Layered, RowsIn};
+
+// What decides a part of a level vector: the values of a column, by their distance from low..up or by layers.
+struct Rule {
+    column: usize,
+    low: i32,
+    up: i32,
+    step: u32,
+    layering: Layering,
+}
+
+// What decides part k of a level vector. Past the last part the step is 0, and so is every level.
+fn rule_of(list: PreferenceList, k: usize) -> Rule
+    ensures { λ r. ⌜ r ≡ ruleOf list k ⌝ }
+{
+    if preference::parts(list) <= k {
+        return Rule {
+            column: 0,
+            low: 0,
+            up: 0,
+            step: 0,
+            layering: Layering::Numeric,
+        };
+    }
+    let p = list.preferences[k];
+    let column = p.column;
+    let c = p.constructor;
+    let t = constructor::target_of(c);
+    let low = t.low;
+    let up = t.up;
+    let s = constructor::scale_of(c);
+    let y = constructor::layering_of(c);
+    Rule {
+        column: arith::wide(column),
+        low: low,
+        up: up,
+        step: s.step,
+        layering: y,
+    }
+}
+
+// The rows of a log of which part k has a place in a table.
+fn rows_in(log: usize, table: usize, k: usize) -> usize
+    ensures { λ r. ⌜ RowsIn (log / 8) table k r ⌝ }
+{
+    if table <= k {
+        return 0;
+    }
+    let held = (table - k - 1) / 8 + 1;
+    let rows = log / 8;
+    if rows <= held { rows } else { held }
+}
+
+// The value at a column of row r, which is handed on as the part of the log that begins at 8 × its number.
+fn value_at(log: &[i32], r: usize, column: usize) -> i32
+    requires { ⌜ r < length (now log) / 8 ⌝ }
+    ensures { λ v. ⌜ v ≡ getD (rowAt (now (log .entry)) r) column (pos 0) ⌝ }
+{
+    let start = 8 * r;
+    let end = start + 8;
+    preference::value_in(&log[start..end], column)
+}
+
+// Part k of a form that goes by distance: for each row a value, two differences, a division and a store.
+fn fill_distances(list: PreferenceList, log: &[i32], k: usize, table: &mut [u16])
+    requires { ⌜ ruleOf list k .layering ≡ Layering.Numeric ⌝ }
+    ensures { λ _. ⌜ now (table .exit) ≡ withPart (partAt list (now (log .entry)) k) k (length (now (log .entry)) / 8) (now (table .entry)) ⌝ }
+{
+    let rule = rule_of(list, k);
+    let column = rule.column;
+    let low = rule.low;
+    let up = rule.up;
+    let step = rule.step;
+    let n = rows_in(log.len(), table.len(), k);
+    let mut r: usize = 0;
+    while r < n {
+        let v = value_at(log, r, column);
+        let level = constructor::level_outside(low, up, step, v);
+        table[8 * r + k] = (level % 65536) as u16;
+        r += 1;
+    }
+}
+
+// Part k of a form with layers.
+fn fill_layers(list: PreferenceList, log: &[i32], k: usize, others: u8, table: &mut [u16])
+    requires { ⌜ Layered list k others ⌝ }
+    ensures { λ _. ⌜ now (table .exit) ≡ withPart (partAt list (now (log .entry)) k) k (length (now (log .entry)) / 8) (now (table .entry)) ⌝ }
+{
+    let rule = rule_of(list, k);
+    let column = rule.column;
+    let names = preference::names_of(list, k);
+    let values = names.values;
+    let layers = names.layers;
+    let count = names.count;
+    let n = rows_in(log.len(), table.len(), k);
+    let mut r: usize = 0;
+    while r < n {
+        let v = value_at(log, r, column);
+        let layer = preference::layer_among(&values, &layers, count, v, others);
+        table[8 * r + k] = layer as u16;
+        r += 1;
+    }
+}
+
+// Sets part k of the rows of a table, eight places to a row, to part k of the level vectors of a log, in 16 bits.
+pub fn fill_part(list: PreferenceList, log: &[i32], k: usize, table: &mut [u16])
+    ensures { λ _. ⌜ now (table .exit) ≡ withPart (partAt list (now (log .entry)) k) k (length (now (log .entry)) / 8) (now (table .entry)) ⌝ }
+{
+    let rule = rule_of(list, k);
+    let y = rule.layering;
+    match y {
+        Layering::Numeric => fill_distances(list, log, k, table),
+        Layering::Layers { top: _, others } => fill_layers(list, log, k, others, table),
+    }
+}
