@@ -4,7 +4,9 @@ pub mod Edges
 pub mod Steps
 pub mod Alike
 pub mod Stretch
+pub mod Blocks
 pub mod Rows
-pub mod RowWalk
+pub mod Whole
 pub mod Walk
 pub mod Bound
+pub mod Inside

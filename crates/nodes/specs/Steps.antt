@@ -25,29 +25,27 @@ unfoldable pub edgesBy : ℕ → List ℕ → ℕ → ℕ → List ℕ
 edgesBy n [] x r = []
 edgesBy n (w ∷ ws) x r = cond (ltb (r + w) n) ((x + w) ∷ []) [] ++ edgesBy w ws x (r % w)
 
--- ---- a row of nodes: those that differ in the level of the last part alone stand side by side
+-- ---- blocks of nodes: those that differ in the levels of the last parts alone stand side by side; a row is a block over one part
 
--- all weights but the last
-unfoldable pub front : List ℕ → List ℕ
-front [] = []
-front (w ∷ []) = []
-front (w ∷ v ∷ ws) = w ∷ front (v ∷ ws)
-
--- how many nodes stand in a row, where there are n in all: the last of these weights, or n
-unfoldable pub rowLength : ℕ → List ℕ → ℕ
-rowLength n [] = n
-rowLength n (w ∷ ws) = rowLength w ws
+-- how many nodes stand in a block over the parts after those with weights ws, where there are n in all: the last of ws, or n
+unfoldable pub blockLength : ℕ → List ℕ → ℕ
+blockLength n [] = n
+blockLength n (w ∷ ws) = blockLength w ws
 
 -- d numbers from a on
 unfoldable pub stretch : ℕ → ℕ → List ℕ
 stretch a zero = []
 stretch a (suc d) = a ∷ stretch (suc a) d
 
--- the edges of d nodes of a row from y on, for the parts with weights ws, over which there are n nodes, where r is what is left of the
--- row's number for them
-unfoldable pub rowBy : ℕ → List ℕ → ℕ → ℕ → ℕ → List ℕ
-rowBy n [] y r d = []
-rowBy n (w ∷ ws) y r d = cond (ltb (r + w) n) (stretch (y + w) d) [] ++ rowBy w ws y (r % w) d
+-- the edges of d nodes of a block from y on, for the parts with weights ws, over which there are n nodes, where r is what is left of the
+-- block's number for them
+unfoldable pub blockBy : ℕ → List ℕ → ℕ → ℕ → ℕ → List ℕ
+blockBy n [] y r d = []
+blockBy n (w ∷ ws) y r d = cond (ltb (r + w) n) (stretch (y + w) d) [] ++ blockBy w ws y (r % w) d
+
+-- the edges between the nodes of a block of n nodes at x, over the parts with weights ws
+abbrev pub insideBy : ℕ → List ℕ → ℕ → List ℕ
+insideBy n ws x = joined (λ j. edgesBy n ws (x + j) j) n
 
 -- the place of the first byte that is not 0; the number of bytes where there is none
 unfoldable pub firstReached : List ℕ → ℕ
@@ -56,14 +54,14 @@ firstReached (b ∷ bs) = cond (eqb b 0) (suc (firstReached bs)) 0
 
 -- the edges of the nodes of a row at x from the one at x + f on, for all parts but the last, whose weights are ws, and for the last
 abbrev pub rowFrom : ℕ → List ℕ → ℕ → ℕ → ℕ → List ℕ
-rowFrom n ws x l f = rowBy n ws (x + f) x (l - f) ++ stretch (x + f + 1) (l - f - 1)
+rowFrom n ws x l f = blockBy n ws (x + f) x (l - f) ++ stretch (x + f + 1) (l - f - 1)
 
 -- the edges crossed at the row of l nodes at x, whose weights but the last are ws: once a node of a row is reached, the rest of it is
 abbrev pub rowEdges : List ℕ → ℕ → ℕ → List ℕ → List ℕ
 rowEdges ws x l b = rowFrom (length b) ws x l (firstReached (take l (drop x b)))
 
--- a row that begins at x and ends before e among n nodes, for parts with weights ws: the edges that leave it lead to nodes
-pub record RowAt (n : ℕ) (ws : List ℕ) (x e : ℕ) : Type 0 where
+-- nodes from x to before e of a block among n nodes, and the parts before it, with weights ws: the edges that leave the block lead to nodes
+pub record BlockAt (n : ℕ) (ws : List ℕ) (x e : ℕ) : Type 0 where
   pub begins : x ≤ e
   pub ends : e ≤ n
   pub some : (i : ℕ) → i < length ws → zero < getD ws i 0

@@ -4,8 +4,8 @@ ghost use mathlib.Core.Path.{_≡_};
 ghost use Prim.Native.Nat.{_+_, _-_, _≤_};
 ghost use mathlib.Core.List.{map};
 ghost use lib.ListN.{length, replicate, getD, set};
-ghost use Rattle.nodes.specs.Steps.{Weights, rowLength, stretch, rowBy, firstReached, rowEdges, RowAt, updated, heldByte, enteredByte, trail, byteMark, markedBy};
-ghost use Rattle.walk.specs.Progress.{Crosses, Settles};
+ghost use Rattle.nodes.specs.Steps.{blockLength, blockBy, insideBy, firstReached, rowEdges, BlockAt, updated, heldByte, enteredByte, trail, byteMark, markedBy};
+ghost use Rattle.walk.specs.Progress.{Crosses, CrossesTo, Small, Begins, wholeEdges, Onward, Settles};
 
 // What crossing edges came to: whether the budget was enough, and the crossings made.
 pub struct Progress {
@@ -65,26 +65,33 @@ fn enter_all(nodes: &mut [u8])
     }
 }
 
-// Crosses d edges, to the nodes that stand side by side from `from` on, if the budget is enough for all of them.
-fn cross_stretch(nodes: &mut [u8], from: usize, d: usize, made: u32, budget: u32) -> Progress
+// Crosses e edges, which lead to the d nodes that stand side by side from `from` on and to no others, if the budget is enough for all.
+fn cross_edges(
+    nodes: &mut [u8],
+    from: usize,
+    d: usize,
+    e: usize,
+    made: u32,
+    budget: u32,
+) -> Progress
     requires { ⌜ from + d ≤ length (now nodes) ⌝ }
     requires { ⌜ made ≤ budget ⌝ }
-    ensures { λ r. ⌜ Crosses (stretch from d) made budget (now (nodes .entry)) (now (nodes .exit)) (r .ok) (r .made) ⌝ }
+    ensures { λ r. ⌜ CrossesTo from d e made budget (now (nodes .entry)) (now (nodes .exit)) (r .ok) (r .made) ⌝ }
 {
     let left = (budget - made) as usize;
-    if left < d {
+    if left < e {
         return Progress { ok: false, made };
     }
     let to = from + d;
     enter_all(&mut nodes[from..to]);
     Progress {
         ok: true,
-        made: made + (d as u32),
+        made: made + (e as u32),
     }
 }
 
-// Crosses the edges that leave d nodes of the row at x, from `from` on, for the parts with these weights: for each whose level there is below
-// its greatest, the edges to the nodes that its weight is added to.
+// Crosses the edges that leave d nodes of the block at x, from `from` on, for the parts with these weights: for each whose level there is
+// below its greatest, the edges to the nodes that its weight is added to.
 fn cross_parts(
     weights: &[usize],
     nodes: &mut [u8],
@@ -94,9 +101,9 @@ fn cross_parts(
     made: u32,
     budget: u32,
 ) -> Progress
-    requires { ⌜ RowAt (length (now nodes)) (now weights) x (from + d) ⌝ }
+    requires { ⌜ BlockAt (length (now nodes)) (now weights) x (from + d) ⌝ }
     requires { ⌜ made ≤ budget ⌝ }
-    ensures { λ r. ⌜ Crosses (rowBy (length (now (nodes .entry))) (now (weights .entry)) from x d) made budget (now (nodes .entry)) (now (nodes .exit)) (r .ok) (r .made) ⌝ }
+    ensures { λ r. ⌜ Crosses (blockBy (length (now (nodes .entry))) (now (weights .entry)) from x d) made budget (now (nodes .entry)) (now (nodes .exit)) (r .ok) (r .made) ⌝ }
 {
     let mut i = 0;
     let mut span = nodes.len();
@@ -105,7 +112,7 @@ fn cross_parts(
     while i < weights.len() {
         let w = weights[i];
         if rest + w < span {
-            let p = cross_stretch(nodes, from + w, d, n, budget);
+            let p = cross_edges(nodes, from + w, d, d, n, budget);
             if !p.ok {
                 return p;
             }
@@ -142,7 +149,7 @@ fn cross_row(
     made: u32,
     budget: u32,
 ) -> Progress
-    requires { ⌜ RowAt (length (now nodes)) (now weights) x (x + l) ⌝ }
+    requires { ⌜ BlockAt (length (now nodes)) (now weights) x (x + l) ⌝ }
     requires { ⌜ made ≤ budget ⌝ }
     ensures { λ r. ⌜ Crosses (rowEdges (now (weights .entry)) x l (now (nodes .entry))) made budget (now (nodes .entry)) (now (nodes .exit)) (r .ok) (r .made) ⌝ }
 {
@@ -157,7 +164,118 @@ fn cross_row(
     if !p.ok {
         return p;
     }
-    cross_stretch(nodes, from + 1, d - 1, p.made, budget)
+    let more = d - 1;
+    cross_edges(nodes, from + 1, more, more, p.made, budget)
+}
+
+// How many edges there are between the nodes of a block of `count` nodes.
+fn edges_inside(weights: &[usize], count: usize) -> usize
+    requires { ⌜ Small (now weights) count ⌝ }
+    ensures { λ e. ⌜ e ≡ length (insideBy count (now (weights .entry)) 0) ⌝ }
+{
+    let mut e = 0;
+    let mut span = count;
+    let mut i = 0;
+    while i < weights.len() {
+        let w = weights[i];
+        let levels = span / w;
+        e += count / levels * (levels - 1);
+        span = w;
+        i += 1;
+    }
+    e
+}
+
+// How many nodes stand in a block, by the weights of the parts before it.
+fn block_length(weights: &[usize], count: usize) -> usize
+    ensures { λ l. ⌜ l ≡ blockLength count (now (weights .entry)) ⌝ }
+{
+    let k = weights.len();
+    if 0 < k { weights[k - 1] } else { count }
+}
+
+// Crosses the edges that leave the nodes of the block at x over the parts from i on. Its first node is reached, so all are.
+fn cross_whole(
+    weights: &[usize],
+    nodes: &mut [u8],
+    x: usize,
+    i: usize,
+    made: u32,
+    budget: u32,
+) -> Progress
+    requires { ⌜ Small (now weights) (length (now nodes)) ⌝ }
+    requires { ⌜ Begins (length (now nodes)) (now weights) x i ⌝ }
+    requires { ⌜ made ≤ budget ⌝ }
+    ensures { λ r. ⌜ Crosses (wholeEdges (now (weights .entry)) x i (length (now (nodes .entry)))) made budget (now (nodes .entry)) (now (nodes .exit)) (r .ok) (r .made) ⌝ }
+{
+    let s = block_length(&weights[..i], nodes.len());
+    let p = cross_parts(&weights[..i], nodes, x, x, s, made, budget);
+    if !p.ok {
+        return p;
+    }
+    let e = edges_inside(&weights[i..], s);
+    cross_edges(nodes, x + 1, s - 1, e, p.made, budget)
+}
+
+// How many parts stand before the largest block that begins at x.
+fn depth_at(weights: &[usize], count: usize, x: usize) -> usize
+    requires { ⌜ BlockAt count (now weights) x (x + blockLength count (now weights)) ⌝ }
+    requires { ⌜ Begins count (now weights) x (length (now weights)) ⌝ }
+    ensures { λ i. ⌜ Begins count (now (weights .entry)) x i ⌝ }
+{
+    let mut span = count;
+    let mut i = 0;
+    while i < weights.len() {
+        if x % span == 0 {
+            return i;
+        }
+        span = weights[i];
+        i += 1;
+    }
+    i
+}
+
+// What a step of the walk came to, and the row that is next.
+struct Step {
+    ok: bool,
+    made: u32,
+    next: usize,
+}
+
+// Over the row at x.
+fn over_row(weights: &[usize], nodes: &mut [u8], x: usize, made: u32, budget: u32) -> Step
+    requires { ⌜ Small (now weights) (length (now nodes)) ⌝ }
+    requires { ⌜ Begins (length (now nodes)) (now weights) x (length (now weights) - 1) ⌝ }
+    requires { ⌜ made ≤ budget ⌝ }
+    ensures { λ r. ⌜ Onward (now (weights .entry)) x made budget (now (nodes .entry)) (now (nodes .exit)) (r .ok) (r .made) (r .next) ⌝ }
+{
+    let k = all_but_one(weights.len());
+    let l = block_length(&weights[..k], nodes.len());
+    let p = cross_row(&weights[..k], nodes, x, l, made, budget);
+    Step {
+        ok: p.ok,
+        made: p.made,
+        next: x + l,
+    }
+}
+
+// Over the largest block at x, whose first node is reached.
+fn over_block(weights: &[usize], nodes: &mut [u8], x: usize, made: u32, budget: u32) -> Step
+    requires { ⌜ Small (now weights) (length (now nodes)) ⌝ }
+    requires { ⌜ Begins (length (now nodes)) (now weights) x (length (now weights) - 1) ⌝ }
+    requires { ⌜ (getD (now nodes) x 0 ≡ 0 → ⊥) ⌝ }
+    requires { ⌜ made ≤ budget ⌝ }
+    ensures { λ r. ⌜ Onward (now (weights .entry)) x made budget (now (nodes .entry)) (now (nodes .exit)) (r .ok) (r .made) (r .next) ⌝ }
+{
+    let k = all_but_one(weights.len());
+    let i = depth_at(&weights[..k], nodes.len(), x);
+    let s = block_length(&weights[..i], nodes.len());
+    let p = cross_whole(weights, nodes, x, i, made, budget);
+    Step {
+        ok: p.ok,
+        made: p.made,
+        next: x + s,
+    }
 }
 
 // The number of parts but the last.
@@ -167,30 +285,33 @@ fn all_but_one(parts: usize) -> usize
     if 0 < parts { parts - 1 } else { 0 }
 }
 
-// How many nodes stand in a row, by the weights of all parts but the last.
-fn row_length(weights: &[usize], count: usize) -> usize
-    ensures { λ l. ⌜ l ≡ rowLength count (now (weights .entry)) ⌝ }
+// One step of the walk.
+fn step_on(weights: &[usize], nodes: &mut [u8], x: usize, made: u32, budget: u32) -> Step
+    requires { ⌜ Small (now weights) (length (now nodes)) ⌝ }
+    requires { ⌜ Begins (length (now nodes)) (now weights) x (length (now weights) - 1) ⌝ }
+    requires { ⌜ made ≤ budget ⌝ }
+    ensures { λ r. ⌜ Onward (now (weights .entry)) x made budget (now (nodes .entry)) (now (nodes .exit)) (r .ok) (r .made) (r .next) ⌝ }
 {
-    let k = weights.len();
-    if 0 < k { weights[k - 1] } else { count }
+    if nodes[x] == 0 {
+        return over_row(weights, nodes, x, made, budget);
+    }
+    over_block(weights, nodes, x, made, budget)
 }
 
-// Walks all rows of nodes in the order of their numbers.
+// Walks all nodes in the order of their numbers.
 fn walk(weights: &[usize], nodes: &mut [u8], budget: u32) -> Progress
-    requires { ⌜ Weights (now weights) (length (now nodes)) ⌝ }
+    requires { ⌜ Small (now weights) (length (now nodes)) ⌝ }
     ensures { λ r. ⌜ Crosses (trail (now (weights .entry)) (now (nodes .entry)) (length (now (nodes .entry)))) 0 budget (now (nodes .entry)) (now (nodes .exit)) (r .ok) (r .made) ⌝ }
 {
-    let k = all_but_one(weights.len());
-    let l = row_length(&weights[..k], nodes.len());
     let mut x = 0;
     let mut made: u32 = 0;
     while x < nodes.len() {
-        let p = cross_row(&weights[..k], nodes, x, l, made, budget);
-        if !p.ok {
-            return p;
+        let s = step_on(weights, nodes, x, made, budget);
+        made = s.made;
+        if !s.ok {
+            return Progress { ok: false, made };
         }
-        made = p.made;
-        x += l;
+        x = s.next;
     }
     Progress { ok: true, made }
 }
@@ -229,7 +350,7 @@ pub fn settle(
     nodes: &mut [u8],
     budget: u32,
 ) -> Progress
-    requires { ⌜ Weights (now weights) (length (now nodes)) ⌝ }
+    requires { ⌜ Small (now weights) (length (now nodes)) ⌝ }
     requires { ⌜ length (now marks) ≡ length (now numbers) ⌝ }
     ensures { λ r. ⌜ Settles (now (weights .entry)) (now (numbers .entry)) (length (now (nodes .entry))) budget (now (marks .entry)) (r .ok) (r .made) (now (marks .exit)) (now (nodes .exit)) ⌝ }
 {

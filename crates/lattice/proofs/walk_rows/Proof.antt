@@ -8,7 +8,12 @@ use lib.ListN.{length, take, drop, replicate, length-append, length-replicate}
 use lib.Seq.{length-take-le, take-at}
 use Rattle.runs.specs.Laws.Log.{accepted}
 use Rattle.preference.specs.Parts.{maxLevels}
-use Rattle.walk.specs.Progress.{Settles}
+use Rattle.preference.specs.Laws.Parts.{parts-few}
+use Rattle.preference.specs.declared.PreferenceList.{PreferenceList}
+use Rattle.nodes.specs.Lattice.{nodeCount}
+use Rattle.nodes.specs.Laws.Steps.{weights-length}
+use Rattle.walk.specs.Progress.{Small, Settles}
+use Rattle.lattice.specs.Numbers.{Weighed}
 use Rattle.lattice.proofs.walk_rows.Statement.{statement}
 use Rattle.lattice.proofs.walk_rows.Tie as tie
 
@@ -42,6 +47,15 @@ told : (w w′ x x′ : List ℕ) (n n′ budget : ℕ) (marks : List ℕ) (ok :
     → Settles w x n budget marks ok made marks′ nodes′ → Settles w′ x′ n′ budget marks ok made marks′ nodes′
 told w w′ x x′ n n′ budget marks ok made marks′ nodes′ p q r s = rw (p, q, r) at s
 
+-- the lattice is one that the walk takes
+small : (l : PreferenceList) (weights : List ℕ) (n : ℕ) → Weighed l weights → n ≡ nodeCount (maxLevels l) → Small weights n
+small l weights n w e =
+    record {
+      lattice = record { tops = maxLevels l; weights-are = w .weights-are; count-is = e };
+      parts = rw (w .weights-are, weights-length (maxLevels l)) (parts-few l);
+      nodes = rw e (w .few);
+    }
+
 array-borrow-prefix-numbers : tie.Need-array-borrow-prefix-numbers
 array-borrow-prefix-numbers c = few (c .before .before .before)
 
@@ -63,7 +77,7 @@ settle-requires : tie.Need-settle-requires
 settle-requires c κs =
     let f = c .before .before .before .before in
     let s = start f in
-    (record { tops = maxLevels (s .args .list); weights-are = s .pre .0 .weights-are; count-is = s .pre .1 .1 .1 .0 }, rw (numbers-front f) (sym (numbers-long f)))
+    (small _ _ _ (s .pre .0) (s .pre .1 .1 .1 .0), rw (numbers-front f) (sym (numbers-long f)))
 
 same-length : tie.Need-same-length
 same-length c = search needs

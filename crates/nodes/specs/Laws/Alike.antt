@@ -54,9 +54,10 @@ alike-more t x r s e p r′ a g =
       same = λ y. simp among-append (rw (simp among-append at (a .same y), simp among-append at (g .same y)) (regroup (among y x) (among y r) (among y s) (among y e) (among y p)));
     }
 
-pub alike-updated : (xs ys b : List ℕ) → Alike xs ys → updated enteredByte xs b ≡ updated enteredByte ys b
-alike-updated xs ys b a =
+-- only the places matter
+pub same-updated : (xs ys b : List ℕ) → ((y : ℕ) → among y xs ≡ among y ys) → updated enteredByte xs b ≡ updated enteredByte ys b
+same-updated xs ys b same =
     ext-getD 0 (updated enteredByte xs b) (updated enteredByte ys b) (length-updated enteredByte xs b ∙ sym (length-updated enteredByte ys b))
     (λ y k.
     let h : y < length b = omega (arith, k, length-updated enteredByte xs b) in
-    getD-updated enteredByte entered-once xs b y h ∙ rw (a .same y) (sym (getD-updated enteredByte entered-once ys b y h)))
+    getD-updated enteredByte entered-once xs b y h ∙ rw (same y) (sym (getD-updated enteredByte entered-once ys b y h)))

@@ -1,154 +1,186 @@
--- A row of nodes: where it ends, and its edges.
+-- The walk over a row of nodes: nothing up to the first reached node, and then the edges of each node, since each is entered from the one
+-- before. The row's edges part by part are the same.
 use mathlib.Core.Path.{_≡_, refl, sym, ap, _∙_}
+use mathlib.Core.Logic.{⊎-elim}
 use mathlib.Core.Bool.{Bool, true, false, cond}
-use mathlib.Core.List.{List, [], _∷_, _++_, append-nil, append-assoc}
-use Prim.Native.Nat.{ℕ, zero, suc, _+_, _-_, _*_, _/_, _%_, _<_, _≤_, _∣_}
-use native.Mathlib.Nat.{dvd-refl, dvd-mul-left-of-dvd, pos-of-dvd-of-pos, div-mul-cancel, div-lt-iff-lt-mul, div-add-mod', mod-lt, mod-eq-of-lt, mod-mod-of-dvd, suc-add, not-suc-le-zero, le-of-suc-le-suc, zero-add}
+use mathlib.Core.List.{List, [], _∷_, _++_, append-nil}
+use Prim.Native.Nat.{ℕ, zero, suc, _+_, _-_, _*_, _%_, _<_, _≤_}
+use native.Mathlib.Nat.{add-suc, add-zero, le-step, lt-suc-self, not-suc-le-zero, le-of-suc-le-suc, eq-or-lt-of-le}
 use native.Mathlib.Omega.{arith}
-use lib.Arith.{digits-lt, digits-div, digits-mod}
-use lib.Dec.{ltb}
-use lib.ListN.{length, getD, take}
-use borrow.Author.Tests.{le-ltb}
+use lib.Dec.{ltb, eqb}
+use lib.ListN.{length, getD, take, drop, length-drop}
+use lib.Seq.{getD-take, getD-drop, length-take-le}
+use borrow.Author.Tests.{le-ltb, lt-ltb, eq-eqb, ne-eqb, eqb-true, eqb-false}
 use Rattle.nodes.specs.Lattice.{nodeCount}
-use Rattle.nodes.specs.Steps.{weightsOf, Weights, edgesBy, front, rowLength, stretch, rowBy, rowFrom, RowAt}
-use Rattle.nodes.specs.Laws.Numbers.{nodes-some}
-use Rattle.nodes.specs.Laws.Some.{All}
-use Rattle.nodes.specs.Laws.Steps.{open-test, weight-some, weight-small, targets-inside}
+use Rattle.nodes.specs.Steps.{weightsOf, Weights, edgesBy, blockLength, stretch, blockBy, rowFrom, rowEdges, firstReached, updated, enteredByte, trail}
+use Rattle.nodes.specs.Laws.Some.{among, among-one, among-end}
+use Rattle.nodes.specs.Laws.Steps.{weights-length, length-updated, entered-there}
+use Rattle.nodes.specs.Laws.Alike.{Alike, alike-equal, alike-more}
 use Rattle.nodes.specs.Laws.Stretch.{stretch-more}
-use Rattle.nodes.specs.Laws.Alike.{Alike, alike-equal, alike-then, alike-both, alike-swap}
+use Rattle.nodes.specs.Laws.Blocks.{blockSize, block-some, block-fits, block-ends, size-is, edges-in-block, block-none, block-more}
 
--- how many nodes a row of the lattice has
-abbrev pub rowSize : List ℕ → ℕ
-rowSize ms = rowLength (nodeCount ms) (front (weightsOf ms))
+-- the weights of all parts but the last, and how many nodes a row has
+abbrev lead : List ℕ → List ℕ
+lead ms = take (length ms - 1) (weightsOf ms)
 
--- the lattice is made of whole rows
-row-divides : (ms : List ℕ) → rowSize ms ∣ nodeCount ms
-unfolding nodeCount weightsOf front rowLength
-row-divides [] = dvd-refl (nodeCount [])
-row-divides (m ∷ []) = dvd-refl (nodeCount (m ∷ []))
-row-divides (m ∷ k ∷ ms) = dvd-mul-left-of-dvd (rowSize (k ∷ ms)) (row-divides (k ∷ ms)) (m + 1)
+abbrev rowSize : List ℕ → ℕ
+rowSize ms = blockSize (length ms - 1) ms
 
-pub row-some : (ms : List ℕ) → zero < rowSize ms
-row-some ms = pos-of-dvd-of-pos (row-divides ms) (nodes-some ms)
+inside-row : (ms : List ℕ) (y j : ℕ) → j < rowSize ms → edgesBy (rowSize ms) (drop (length ms - 1) (weightsOf ms)) y j ≡ cond (ltb (j + 1) (rowSize ms)) ((y + 1) ∷ []) []
+unfolding nodeCount weightsOf blockLength edgesBy
+inside-row [] y j h = rw (le-ltb (j + 1) 1 (omega arith))
+inside-row (m ∷ []) y j h = append-nil (cond (ltb (j + 1) ((m + 1) * 1)) ((y + 1) ∷ []) [])
+inside-row (m ∷ k ∷ ms) y j h = let e : length (m ∷ k ∷ ms) - 1 ≡ suc (length (k ∷ ms) - 1) = omega arith in rw e (inside-row (k ∷ ms) y j (rw e at h))
 
--- a row that begins inside ends inside
-pub row-fits : (ms : List ℕ) (r j : ℕ) → r < nodeCount ms → r % rowSize ms ≡ 0 → j < rowSize ms → r + j < nodeCount ms
-row-fits ms r j h z k =
-    let l = rowSize ms in
-    let rows : nodeCount ms / l * l ≡ nodeCount ms = div-mul-cancel l (row-divides ms) in
-    let q : r / l < nodeCount ms / l = div-lt-iff-lt-mul (row-some ms) .1 (rw rows h) in
-    let here : r / l * l + j < nodeCount ms / l * l = digits-lt q k in
-    omega (arith, here, rows, div-add-mod' r l)
+-- the edges of a node of a row
+edges-in-row : (ms : List ℕ) (y r j : ℕ) → r < nodeCount ms → r % rowSize ms ≡ 0 → j < rowSize ms
+    → edgesBy (nodeCount ms) (weightsOf ms) y (r + j) ≡ edgesBy (nodeCount ms) (lead ms) y r ++ cond (ltb (j + 1) (rowSize ms)) ((y + 1) ∷ []) []
+edges-in-row ms y r j h z k = edges-in-block (length ms - 1) ms y r j h z k ∙ rw (inside-row ms y j k)
 
--- the edges of the node at place j of the row at r: those of the row for all parts but the last, and one to the next node of the row
-pub edges-in-row : (ms : List ℕ) (y r j : ℕ) → r < nodeCount ms → r % rowSize ms ≡ 0 → j < rowSize ms
-    → edgesBy (nodeCount ms) (weightsOf ms) y (r + j) ≡ edgesBy (nodeCount ms) (front (weightsOf ms)) y r ++ cond (ltb (j + 1) (rowSize ms)) ((y + 1) ∷ []) []
-unfolding nodeCount weightsOf front rowLength edgesBy
-edges-in-row [] y r j h z k = rw (le-ltb (j + 1) 1 (omega arith))
-edges-in-row (m ∷ []) y r j h z k =
-    let none : r ≡ 0 = sym (mod-eq-of-lt h) ∙ z in
-    rw (none, zero-add j) (append-nil (cond (ltb (j + 1) ((m + 1) * 1)) ((y + 1) ∷ []) []))
-edges-in-row (m ∷ k ∷ ms) y r j h z i =
-    let w = nodeCount (k ∷ ms) in
-    let s = r % w in
-    let low : s % rowSize (k ∷ ms) ≡ 0 = mod-mod-of-dvd (rowSize (k ∷ ms)) r (row-divides (k ∷ ms)) ∙ z in
-    let fits : s + j < w = row-fits (k ∷ ms) s j (mod-lt r (nodes-some (k ∷ ms))) low i in
-    let split : r + j ≡ r / w * w + (s + j) = omega (arith, div-add-mod' r w) in
-    let div : (r + j) / w ≡ r / w = rw split (digits-div (r / w) fits) in
-    let mod′ : (r + j) % w ≡ s + j = rw split (digits-mod (r / w) fits) in
-    let test : ltb (r + j + w) ((m + 1) * w) ≡ ltb (r + w) ((m + 1) * w) =
-    open-test m w (r + j) (nodes-some (k ∷ ms)) ∙ rw div (sym (open-test m w r (nodes-some (k ∷ ms)))) in
-    rw (test, mod′, edges-in-row (k ∷ ms) y s j (mod-lt r (nodes-some (k ∷ ms))) low i)
-    (sym (append-assoc (cond (ltb (r + w) ((m + 1) * w)) ((y + w) ∷ []) []) (edgesBy w (front (weightsOf (k ∷ ms))) y s) (cond (ltb (j + 1) (rowSize (k ∷ ms))) ((y + 1) ∷ []) [])))
+module _ (tops b : List ℕ) (size : length b ≡ nodeCount tops) where
+  abbrev steps : ℕ → List ℕ
+  steps x = trail (weightsOf tops) b x
 
--- ---- the edges of a stretch of a row, part by part
+  abbrev bytes : ℕ → List ℕ
+  bytes x = updated enteredByte (steps x) b
 
-pub row-none : (n : ℕ) (ws : List ℕ) (y r : ℕ) → rowBy n ws y r 0 ≡ []
-unfolding rowBy stretch
-row-none n [] y r = refl
-row-none n (w ∷ ws) y r = rw (row-none w ws y (r % w)) (go (ltb (r + w) n))
+  -- over nodes that are not reached
+  still : (x f : ℕ) → ((i : ℕ) → i < f → getD (bytes x) (x + i) 0 ≡ 0) → steps (x + f) ≡ steps x
+  unfolding trail
+  still x zero h = rw (add-zero x)
+  still x (suc f) h = rw (add-suc x f, still x f (λ i k. h i (le-step k)), h f (lt-suc-self f)) (append-nil (steps x))
+
+  module _ (x f : ℕ) (inside : x < nodeCount tops) (first : x % rowSize tops ≡ 0) (low : f < rowSize tops)
+      (zeros : (i : ℕ) → i < f → getD (bytes x) (x + i) 0 ≡ 0) (found : getD (bytes x) (x + f) 0 ≡ 0 → ⊥)
+    where
+      -- at place f + d of the row, whose node is reached
+      record Reached (d : ℕ) : Type 0 where
+        crossed : Alike (steps (x + (f + d))) (steps x ++ (blockBy (length b) (lead tops) (x + f) x d ++ stretch (x + f + 1) d))
+        there : getD (bytes (x + (f + d))) (x + (f + d)) 0 ≡ 0 → ⊥
+
+      -- the edges of that node
+      on : (d : ℕ) → f + d < rowSize tops → (getD (bytes (x + (f + d))) (x + (f + d)) 0 ≡ 0 → ⊥)
+          → steps (suc (x + (f + d)))
+          ≡ steps (x + (f + d)) ++ (edgesBy (length b) (lead tops) (x + f + d) x ++ cond (ltb (f + d + 1) (rowSize tops)) ((x + f + 1 + d) ∷ []) [])
+      unfolding trail
+      on d k t =
+          rw (ne-eqb _ _ t, size)
+          (ap (λ (l : List ℕ). steps (x + (f + d)) ++ l)
+          (edges-in-row tops (x + (f + d)) x (f + d) inside first k
+          ∙ (let next : x + (f + d) + 1 ≡ x + f + 1 + d = omega arith in let here : x + (f + d) ≡ x + f + d = omega arith in rw (next, here))))
+
+      begin : Reached 0
+      unfolding stretch
+      begin =
+          record {
+            crossed = alike-equal _ _ (rw (add-zero f, still x f zeros, block-none (length b) (lead tops) (x + f) x) (sym (append-nil (steps x))));
+            there = rw (add-zero f, still x f zeros) found;
+          }
+
+      further : (d : ℕ) → f + d + 1 < rowSize tops → Reached d → Reached (suc d)
+      further d k r =
+          record {
+            crossed =
+                rw (up, path, stretch-more (x + f + 1) d)
+                (alike-more (steps (x + (f + d))) (steps x) (blockBy (length b) (lead tops) (x + f) x d) (stretch (x + f + 1) d) _ _ _ (r .crossed)
+                (block-more (length b) (lead tops) (x + f) x d));
+            there = entered-there (steps (x + (f + suc d))) b (x + (f + suc d)) (rw size (block-fits (length tops - 1) tops x (f + suc d) inside first (omega (arith, k, add-suc f d)))) last;
+          }
+        where
+          up : x + (f + suc d) ≡ suc (x + (f + d))
+          up = rw (add-suc f d, add-suc x (f + d))
+
+          path : steps (suc (x + (f + d))) ≡ steps (x + (f + d)) ++ (edgesBy (length b) (lead tops) (x + f + d) x ++ ((x + f + 1 + d) ∷ []))
+          path = on d (omega arith) (r .there) ∙ rw (lt-ltb (f + d + 1) (rowSize tops) k)
+
+          last : among (x + (f + suc d)) (steps (x + (f + suc d))) ≡ true
+          last =
+              let e : x + f + 1 + d ≡ x + (f + suc d) = omega (arith, add-suc f d) in
+              ap (λ (n : ℕ). among (x + (f + suc d)) (steps n)) up
+              ∙ rw path (among-end (x + (f + suc d)) (steps (x + (f + d))) (edgesBy (length b) (lead tops) (x + f + d) x) ((x + f + 1 + d) ∷ []) (among-one (x + (f + suc d)) (x + f + 1 + d) ∙ eq-eqb (x + f + 1 + d) (x + (f + suc d)) e))
+
+      going : (d : ℕ) → f + d < rowSize tops → Reached d
+      going zero h = begin
+      going (suc d) h = let k : f + d + 1 < rowSize tops = omega (arith, h, add-suc f d) in further d k (going d (omega arith))
+
+      -- the whole row, whose last place is f + d
+      whole : (d : ℕ) → f + d + 1 ≡ rowSize tops → Alike (steps (x + rowSize tops)) (steps x ++ rowFrom (length b) (lead tops) x (rowSize tops) f)
+      whole d e =
+          let r = going d (omega arith) in
+          let end : x + rowSize tops ≡ suc (x + (f + d)) = omega arith in
+          let long : rowSize tops - f ≡ suc d = omega arith in
+          let less : suc d - 1 ≡ d = omega arith in
+          rw (end, long, less, on d (omega arith) (r .there), le-ltb (f + d + 1) (rowSize tops) (omega arith), ← append-nil (stretch (x + f + 1) d))
+          (alike-more (steps (x + (f + d))) (steps x) (blockBy (length b) (lead tops) (x + f) x d) (stretch (x + f + 1) d) _ [] _ (r .crossed)
+          (block-more (length b) (lead tops) (x + f) x d))
+
+-- ---- the first reached node
+
+pub first-low : (l : List ℕ) → firstReached l ≤ length l
+unfolding firstReached
+first-low [] = omega arith
+first-low (b ∷ l) = go (eqb b 0) (first-low l)
   where
-    go : (t : Bool) → cond {A = List ℕ} t [] [] ++ [] ≡ []
-    go true = refl
-    go false = refl
+    go : (t : Bool) → firstReached l ≤ length l → cond t (suc (firstReached l)) 0 ≤ length (b ∷ l)
+    go true h = omega arith
+    go false h = omega arith
 
--- a row with no reached node has none
-pub row-past : (n : ℕ) (ws : List ℕ) (x l : ℕ) → rowFrom n ws x l l ≡ []
-unfolding stretch
-row-past n ws x l = let none : l - l ≡ 0 = omega arith in rw (none, row-none n ws (x + l) x)
-
--- one node more
-pub row-more : (n : ℕ) (ws : List ℕ) (y r d : ℕ) → Alike (rowBy n ws y r (suc d)) (rowBy n ws y r d ++ edgesBy n ws (y + d) r)
-unfolding rowBy edgesBy
-row-more n [] y r d = alike-equal [] [] refl
-row-more n (w ∷ ws) y r d =
-    alike-then _ _ _
-    (alike-both _ _ _ _ (alike-equal _ _ (piece (ltb (r + w) n))) (row-more w ws y (r % w) d))
-    (alike-swap (cond (ltb (r + w) n) (stretch (y + w) d) []) (cond (ltb (r + w) n) ((y + d + w) ∷ []) []) (rowBy w ws y (r % w) d) (edgesBy w ws (y + d) (r % w)))
+first-zero : (l : List ℕ) (i : ℕ) → i < firstReached l → getD l i 0 ≡ 0
+unfolding firstReached
+first-zero [] i h = refl
+first-zero (b ∷ l) i h = go (eqb b 0) refl (first-zero l) i h
   where
-    piece : (t : Bool) → cond t (stretch (y + w) (suc d)) [] ≡ cond t (stretch (y + w) d) [] ++ cond t ((y + d + w) ∷ []) []
-    piece true = stretch-more (y + w) d ∙ ap (λ (k : ℕ). stretch (y + w) d ++ (k ∷ [])) (omega arith)
-    piece false = refl
+    go : (t : Bool) → eqb b 0 ≡ t → ((k : ℕ) → k < firstReached l → getD l k 0 ≡ 0) → (k : ℕ) → k < cond t (suc (firstReached l)) 0 → getD (b ∷ l) k 0 ≡ 0
+    go true e more zero k = eqb-true b 0 e
+    go true e more (suc n) k = more n (le-of-suc-le-suc k)
+    go false e more n k = absurd (not-suc-le-zero k)
 
--- ---- a row by weights
-
-pub front-take : (ws : List ℕ) → take (length ws - 1) ws ≡ front ws
-unfolding front
-front-take [] = refl
-front-take (w ∷ []) = refl
-front-take (w ∷ v ∷ ws) = let e : length (w ∷ v ∷ ws) - 1 ≡ suc (length (v ∷ ws) - 1) = omega arith in rw e (ap (λ (l : List ℕ). w ∷ l) (front-take (v ∷ ws)))
-
-front-at : (ws : List ℕ) (i : ℕ) → i < length (front ws) → (i < length ws) × (getD (front ws) i 0 ≡ getD ws i 0)
-unfolding front
-front-at [] i h = absurd (not-suc-le-zero h)
-front-at (w ∷ []) i h = absurd (not-suc-le-zero h)
-front-at (w ∷ v ∷ ws) zero h = (omega arith, refl)
-front-at (w ∷ v ∷ ws) (suc i) h = let r = front-at (v ∷ ws) i (le-of-suc-le-suc h) in (omega (arith, r .0), r .1)
-
--- the length of a row is the last of these weights
-pub row-length-last : (n : ℕ) (ws : List ℕ) → zero < length ws → rowLength n ws ≡ getD ws (length ws - 1) 0
-unfolding rowLength
-row-length-last n [] h = absurd (not-suc-le-zero h)
-row-length-last n (w ∷ []) h = refl
-row-length-last n (w ∷ v ∷ ws) h = let e : length (w ∷ v ∷ ws) - 1 ≡ suc (length (v ∷ ws) - 1) = omega arith in rw e (row-length-last w (v ∷ ws) (omega arith))
-
--- one node on, the edges lead one node on
-edges-next : (n : ℕ) (ws : List ℕ) (m y r : ℕ) → All (λ t. t < m) (edgesBy n ws y r) → All (λ t. t ≤ m) (edgesBy n ws (suc y) r)
-unfolding edgesBy
-edges-next n [] m y r h = tt
-edges-next n (w ∷ ws) m y r h = go (ltb (r + w) n) (edges-next w ws m y (r % w)) h
+first-found : (l : List ℕ) → firstReached l < length l → getD l (firstReached l) 0 ≡ 0 → ⊥
+unfolding firstReached
+first-found [] h e = not-suc-le-zero h
+first-found (b ∷ l) h z = go (eqb b 0) refl (first-found l) h z
   where
-    go : (t : Bool) → (All (λ t. t < m) (edgesBy w ws y (r % w)) → All (λ t. t ≤ m) (edgesBy w ws (suc y) (r % w)))
-        → All (λ t. t < m) (cond t ((y + w) ∷ []) [] ++ edgesBy w ws y (r % w)) → All (λ t. t ≤ m) (cond t ((suc y + w) ∷ []) [] ++ edgesBy w ws (suc y) (r % w))
-    go true more k = (omega (arith, k .0, suc-add y w), more (k .1))
-    go false more k = more k
+    go : (t : Bool) → eqb b 0 ≡ t → (firstReached l < length l → getD l (firstReached l) 0 ≡ 0 → ⊥) → cond t (suc (firstReached l)) 0 < length (b ∷ l)
+        → getD (b ∷ l) (cond t (suc (firstReached l)) 0) 0 ≡ 0 → ⊥
+    go true e more k z = more (le-of-suc-le-suc k) z
+    go false e more k z = eqb-false b 0 e z
 
--- l is the last place of the row
-pub row-ends : (ms : List ℕ) (x l : ℕ) → x < nodeCount ms → x % rowSize ms ≡ 0 → suc l ≡ rowSize ms
-    → (x + rowSize ms ≤ nodeCount ms) × All (λ t. t ≤ nodeCount ms) (edgesBy (nodeCount ms) (front (weightsOf ms)) (x + rowSize ms) x)
-row-ends ms x l h z e =
-    let k : l < rowSize ms = omega arith in
-    let fits = row-fits ms x l h z k in
-    let end : x + rowSize ms ≡ suc (x + l) = omega arith in
-    let inside = targets-inside (weightsOf ms) (nodeCount ms) (record { tops = ms; weights-are = refl; count-is = refl }) (x + l) fits in
-    let row : edgesBy (nodeCount ms) (weightsOf ms) (x + l) (x + l) ≡ edgesBy (nodeCount ms) (front (weightsOf ms)) (x + l) x =
-    edges-in-row ms (x + l) x l h z k ∙ rw (le-ltb (l + 1) (rowSize ms) (omega arith)) (append-nil (edgesBy (nodeCount ms) (front (weightsOf ms)) (x + l) x)) in
-    (omega arith, rw end (edges-next (nodeCount ms) (front (weightsOf ms)) (nodeCount ms) (x + l) x (rw row at inside)))
+module _ (tops b : List ℕ) (size : length b ≡ nodeCount tops) (x : ℕ) (inside : x < nodeCount tops) (first : x % rowSize tops ≡ 0) where
+  abbrev row : List ℕ
+  row = take (rowSize tops) (drop x (bytes tops b size x))
 
-module _ (ws : List ℕ) (n : ℕ) (g : Weights ws n) where
-  pub size-is : rowLength n (front ws) ≡ rowSize (g .tops)
-  size-is = rw (g .weights-are, g .count-is)
+  row-size : length row ≡ rowSize tops
+  row-size =
+      let all = block-ends (length tops - 1) tops x (rowSize tops - 1) inside first (omega (arith, block-some (length tops - 1) tops)) .0 in
+      let size′ = length-updated enteredByte (steps tops b size x) b in
+      length-take-le (rowSize tops) (drop x (bytes tops b size x)) (omega (arith, all, size, size′, length-drop x (bytes tops b size x)))
 
-  pub length-some : zero < rowLength n (front ws)
-  length-some = rw size-is (row-some (g .tops))
+  row-byte : (i : ℕ) → i < rowSize tops → getD row i 0 ≡ getD (bytes tops b size x) (x + i) 0
+  row-byte i k = getD-take (rowSize tops) (drop x (bytes tops b size x)) i 0 k ∙ getD-drop x (bytes tops b size x) i 0
 
-  pub row-at : (x : ℕ) → x < n → x % rowLength n (front ws) ≡ 0 → RowAt n (front ws) x (x + rowLength n (front ws))
-  row-at x h z =
-      let r = row-ends (g .tops) x (rowSize (g .tops) - 1) (rw (g .count-is) at h) (rw size-is at z) (omega (arith, row-some (g .tops))) in
-      record {
-        begins = omega arith;
-        ends = rw (size-is, g .count-is) (r .0);
-        some = λ i k. let f = front-at ws i k in rw (f .1) (weight-some ws n g i (f .0));
-        small = λ i k. let f = front-at ws i k in rw (f .1) (weight-small ws n g i (f .0));
-        targets = rw (size-is, g .weights-are, g .count-is) (r .1);
-      }
+  -- by the place of the first reached node
+  by-first : (f : ℕ) → f ≤ rowSize tops → ((i : ℕ) → i < f → getD row i 0 ≡ 0) → (f < rowSize tops → getD row f 0 ≡ 0 → ⊥)
+      → Alike (steps tops b size (x + rowSize tops)) (steps tops b size x ++ rowFrom (length b) (lead tops) x (rowSize tops) f)
+  unfolding stretch
+  by-first f k zero′ found =
+      let zeros : (i : ℕ) → i < f → getD (bytes tops b size x) (x + i) 0 ≡ 0 = λ i l. sym (row-byte i (omega arith)) ∙ zero′ i l in
+      ⊎-elim
+      (λ e.
+      let none : rowSize tops - f ≡ 0 = omega arith in
+      alike-equal _ _ (rw (none, block-none (length b) (lead tops) (x + f) x) (rw e at (still tops b size x f zeros) ∙ sym (append-nil (steps tops b size x)))))
+      (λ l. whole tops b size x f inside first l zeros (λ e. found l (row-byte f l ∙ e)) (rowSize tops - f - 1) (omega arith))
+      (eq-or-lt-of-le k)
+
+  row-crossed : Alike (steps tops b size (x + rowSize tops)) (steps tops b size x ++ rowEdges (lead tops) x (rowSize tops) (bytes tops b size x))
+  row-crossed =
+      rw (length-updated enteredByte (steps tops b size x) b)
+      (by-first (firstReached row) (rw row-size at (first-low row)) (first-zero row) (λ l. first-found row (rw row-size l)))
+
+-- the walk over a row crosses the row's edges
+pub row-walked : (ws b : List ℕ) (x : ℕ) → Weights ws (length b) → x < length b → x % blockLength (length b) (take (length ws - 1) ws) ≡ 0
+    → Alike (trail ws b (x + blockLength (length b) (take (length ws - 1) ws)))
+    (trail ws b x ++ rowEdges (take (length ws - 1) ws) x (blockLength (length b) (take (length ws - 1) ws)) (updated enteredByte (trail ws b x) b))
+row-walked ws b x g h z =
+    let long : length ws ≡ length (g .tops) = rw (g .weights-are) (weights-length (g .tops)) in
+    let size : blockLength (length b) (take (length ws - 1) ws) ≡ rowSize (g .tops) = size-is ws (length b) g (length ws - 1) ∙ rw long in
+    rw (size, long, g .weights-are) (row-crossed (g .tops) b (g .count-is) x (rw (g .count-is) at h) (rw size at z))

@@ -76,6 +76,10 @@ module _ (y : ℕ) (c : Bool) (a : ℕ) (l : List ℕ) where
   pub among-tail : among y l ≡ true → among y (cond c (a ∷ []) [] ++ l) ≡ true
   among-tail t = among-append y (cond c (a ∷ []) []) l ∙ or-right (among y (cond c (a ∷ []) [])) (among y l) t
 
+pub among-end : (y : ℕ) (s t q : List ℕ) → among y q ≡ true → among y (s ++ (t ++ q)) ≡ true
+among-end y s t q e =
+    among-append y s (t ++ q) ∙ or-right (among y s) (among y (t ++ q)) (among-append y t q ∙ or-right (among y t) (among y q) e)
+
 -- what holds of each number that is among ts holds of all of them
 pub all-among : (Q : ℕ → Type 0) (ts : List ℕ) → ((y : ℕ) → among y ts ≡ true → Q y) → All Q ts
 unfolding among anyOf

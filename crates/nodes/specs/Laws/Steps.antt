@@ -9,7 +9,7 @@ use native.Mathlib.Omega.{arith}
 use lib.Dec.{ltb, eqb}
 use lib.ListN.{length, getD, set, drop, replicate, length-set, length-replicate}
 use lib.Seq.{getD-set-same, getD-set-other}
-use borrow.Author.Tests.{lt-ltb, le-ltb, ltb-true, eq-eqb, ne-eqb}
+use borrow.Author.Tests.{lt-ltb, le-ltb, ltb-true, ltb-false, eq-eqb, ne-eqb}
 use Rattle.laws.specs.Lists.{anyOf}
 use Rattle.laws.specs.Laws.Bools.{both-ways}
 use Rattle.preference.specs.Laws.Parts.{Within}
@@ -49,7 +49,7 @@ drop-nodes ms zero = le-refl (nodeCount ms)
 drop-nodes [] (suc i) = le-refl (nodeCount [])
 drop-nodes (m ∷ ms) (suc i) = le-trans (drop-nodes ms i) (nodes-grow m ms)
 
-weight-at : (ms : List ℕ) (i : ℕ) → i < length ms → getD (weightsOf ms) i 0 ≡ nodeCount (drop (suc i) ms)
+pub weight-at : (ms : List ℕ) (i : ℕ) → i < length ms → getD (weightsOf ms) i 0 ≡ nodeCount (drop (suc i) ms)
 unfolding weightsOf
 weight-at [] i h = absurd (not-suc-le-zero h)
 weight-at (m ∷ ms) zero h = refl
@@ -127,3 +127,15 @@ entered-once b = go (ltb b 2) refl
     go : (t : Bool) → ltb b 2 ≡ t → cond (ltb (cond t (b + 2) b) 2) (cond t (b + 2) b + 2) (cond t (b + 2) b) ≡ cond t (b + 2) b
     go true e = rw (le-ltb (b + 2) 2 (omega arith))
     go false e = rw e
+
+entered-some : (b : ℕ) → enteredByte b ≡ 0 → ⊥
+unfolding enteredByte
+entered-some b = go (ltb b 2) refl
+  where
+    go : (t : Bool) → ltb b 2 ≡ t → cond t (b + 2) b ≡ 0 → ⊥
+    go true e z = omega arith
+    go false e z = let h = ltb-false b 2 e in omega arith
+
+-- a node that an edge leads to is reached
+pub entered-there : (ts b : List ℕ) (y : ℕ) → y < length b → among y ts ≡ true → getD (updated enteredByte ts b) y 0 ≡ 0 → ⊥
+entered-there ts b y h t e = entered-some (getD b y 0) (sym (getD-updated enteredByte entered-once ts b y h ∙ rw t) ∙ e)

@@ -10,8 +10,9 @@ use borrow.Author.Needs.{needs}
 use borrow.Author.Tests.{lt-ltb, le-ltb, not-true, not-false}
 use lib.ListN.{length, getD, drop, drop-of-length-le}
 use lib.Seq.{drop-cons}
-use Rattle.nodes.specs.Steps.{edgesBy, stretch, rowBy, RowAt, updated}
+use Rattle.nodes.specs.Steps.{edgesBy, stretch, blockBy, BlockAt, updated}
 use Rattle.nodes.specs.Laws.Some.{All}
+use Rattle.nodes.specs.Laws.Stretch.{stretch-length}
 use Rattle.walk.specs.Progress.{Crosses}
 use Rattle.walk.proofs.Crossing.{went-through, paid-for, then-more, then-none}
 use Rattle.walk.proofs.cross_parts.Statement.{statement}
@@ -24,23 +25,23 @@ record Left (ws nodes₀ : List ℕ) (x from d made budget : ℕ) (nodes : List 
   paid : n ≤ budget
   small : rest ≤ x
   inside : All (λ t. t ≤ length nodes₀) (edgesBy span (drop i ws) (from + d) rest)
-  goes : (after : List ℕ) (ok : Bool) (count : ℕ) → Crosses (rowBy span (drop i ws) from rest d) n budget nodes after ok count
-      → Crosses (rowBy (length nodes₀) ws from x d) made budget nodes₀ after ok count
+  goes : (after : List ℕ) (ok : Bool) (count : ℕ) → Crosses (blockBy span (drop i ws) from rest d) n budget nodes after ok count
+      → Crosses (blockBy (length nodes₀) ws from x d) made budget nodes₀ after ok count
 
 module _ (ws nodes₀ : List ℕ) (x from d made budget : ℕ) where
-  begin : RowAt (length nodes₀) ws x (from + d) → made ≤ budget → Left ws nodes₀ x from d made budget nodes₀ 0 (length nodes₀) x made
+  begin : BlockAt (length nodes₀) ws x (from + d) → made ≤ budget → Left ws nodes₀ x from d made budget nodes₀ 0 (length nodes₀) x made
   begin g h = record { low = omega arith; size = refl; paid = h; small = le-refl x; inside = g .targets; goes = λ after ok count r. r }
 
   module _ (nodes : List ℕ) (i span rest n : ℕ) (s : Left ws nodes₀ x from d made budget nodes i span rest n) where
     -- all parts are passed
-    finish : length ws ≤ i → Crosses (rowBy (length nodes₀) ws from x d) made budget nodes₀ nodes true n
-    unfolding updated rowBy
+    finish : length ws ≤ i → Crosses (blockBy (length nodes₀) ws from x d) made budget nodes₀ nodes true n
+    unfolding updated blockBy
     finish k = s .goes nodes true n (rw (drop-of-length-le ws {i = i} k) (went-through [] n budget nodes nodes n (sym (add-zero n)) (s .paid) refl))
 
     module _ (h : i < length ws) where
       -- the part's edges are not there
       pass : span ≤ rest + getD ws i 0 → Left ws nodes₀ x from d made budget nodes (i + 1) (getD ws i 0) (rest % getD ws i 0) n
-      unfolding edgesBy rowBy
+      unfolding edgesBy blockBy
       pass l =
           record {
             low = omega arith;
@@ -57,12 +58,12 @@ module _ (ws nodes₀ : List ℕ) (x from d made budget : ℕ) where
         target = (rw (drop-cons ws i 0 h, lt-ltb _ _ l) at (s .inside)) .0
 
         module _ (nodes′ : List ℕ) (ok : Bool) (n′ : ℕ) (r : Crosses (stretch (from + getD ws i 0) d) n budget nodes nodes′ ok n′) where
-          stop : ok ≡ false → Crosses (rowBy (length nodes₀) ws from x d) made budget nodes₀ nodes′ ok n′
-          unfolding rowBy
+          stop : ok ≡ false → Crosses (blockBy (length nodes₀) ws from x d) made budget nodes₀ nodes′ ok n′
+          unfolding blockBy
           stop e = s .goes nodes′ ok n′ (rw (drop-cons ws i 0 h, lt-ltb _ _ l) (then-none _ _ n budget nodes nodes′ ok n′ r e))
 
           go-on : length nodes′ ≡ length nodes → ok ≡ true → Left ws nodes₀ x from d made budget nodes′ (i + 1) (getD ws i 0) (rest % getD ws i 0) n′
-          unfolding edgesBy rowBy
+          unfolding edgesBy blockBy
           go-on same e =
               record {
                 low = omega arith;
@@ -99,22 +100,22 @@ shared-slice-read-w c = search needs
 add-if1 : tie.Need-add-if1 Inv-loop μ-loop
 add-if1 c = let t = c .before in let g = start t .pre .0 in omega (arith, g .small (t .before .loop .i) (t .loop-test .taken), g .begins, g .ends, t .before .loop .inv .small)
 
-add-cross-stretch : tie.Need-add-cross-stretch Inv-loop μ-loop
-add-cross-stretch c = omega (arith, aim (c .before .before .before) (c .before .if1 .taken))
+add-cross-edges : tie.Need-add-cross-edges Inv-loop μ-loop
+add-cross-edges c = omega (arith, aim (c .before .before .before) (c .before .if1 .taken))
 
-cross-stretch-requires : tie.Need-cross-stretch-requires Inv-loop μ-loop
-cross-stretch-requires c κs =
+cross-edges-requires : tie.Need-cross-edges-requires Inv-loop μ-loop
+cross-edges-requires c κs =
     let t = c .before .before .before in
     (omega (arith, aim t (c .before .if1 .taken), t .before .loop .inv .size), t .before .loop .inv .paid)
 
 same-length : tie.Need-same-length Inv-loop μ-loop
-same-length c = let k = c .before .before .before .before in k .cross-stretch .kept .0 ∙ k .before .before .before .before .before .loop .inv .size
+same-length c = let k = c .before .before .before .before in k .cross-edges .kept .0 ∙ k .before .before .before .before .before .loop .inv .size
 
 returns : tie.Need-returns Inv-loop μ-loop
 returns c =
     let k = c .before .before .before .before in
     let t = k .before .before .before .before in
-    stop _ _ _ _ _ _ _ _ _ _ _ _ (t .before .loop .inv) (t .loop-test .taken) (k .before .before .if1 .taken) _ _ _ (k .cross-stretch .ensures) (not-true (k .cross-stretch .result .ok) (c .if2 .taken))
+    stop _ _ _ _ _ _ _ _ _ _ _ _ (t .before .loop .inv) (t .loop-test .taken) (k .before .before .if1 .taken) _ _ _ (k .cross-edges .ensures _ (stretch-length _ (start t .args .d)) (λ y. refl)) (not-true (k .cross-edges .result .ok) (c .if2 .taken))
 
 rem-rest : tie.Need-rem-rest Inv-loop μ-loop
 rem-rest c = let t = c .before .before in start t .pre .0 .some (t .before .loop .i) (t .loop-test .taken)
@@ -131,7 +132,7 @@ loop-again c =
     let l = t .before .loop in
     ⊎-elim
     (λ w. rw (w .7, w .8)
-    (go-on _ _ _ _ _ _ _ _ _ _ _ _ (l .inv) (t .loop-test .taken) (w .0 .taken) _ _ _ (w .2 .ensures) (w .2 .kept .0) (not-false (w .2 .result .ok) (w .6 .left))))
+    (go-on _ _ _ _ _ _ _ _ _ _ _ _ (l .inv) (t .loop-test .taken) (w .0 .taken) _ _ _ (w .2 .ensures _ (stretch-length _ (start t .args .d)) (λ y. refl)) (w .2 .kept .0) (not-false (w .2 .result .ok) (w .6 .left))))
     (λ w. rw (w .1, w .2) (pass _ _ _ _ _ _ _ _ _ _ _ _ (l .inv) (t .loop-test .taken) (w .0 .left)))
     (c .if1 .came)
 
@@ -151,8 +152,8 @@ cross-parts-spec =
     mul-w
     shared-slice-read-w
     add-if1
-    add-cross-stretch
-    cross-stretch-requires
+    add-cross-edges
+    cross-edges-requires
     same-length
     returns
     rem-rest

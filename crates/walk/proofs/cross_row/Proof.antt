@@ -7,8 +7,9 @@ use borrow.Author.Needs.{needs}
 use borrow.Author.Tests.{not-true, not-false}
 use lib.ListN.{length, take, drop, length-take}
 use Rattle.nodes.specs.Steps.{firstReached, updated}
-use Rattle.nodes.specs.Laws.Rows.{row-past}
-use Rattle.nodes.specs.Laws.RowWalk.{first-low}
+use Rattle.nodes.specs.Laws.Blocks.{row-past}
+use Rattle.nodes.specs.Laws.Stretch.{stretch-length}
+use Rattle.nodes.specs.Laws.Rows.{first-low}
 use Rattle.walk.proofs.Crossing.{went-through, paid-for, then-more, then-none}
 use Rattle.walk.proofs.cross_row.Statement.{statement}
 use Rattle.walk.proofs.cross_row.Tie as tie
@@ -73,14 +74,17 @@ returns-2 c =
     let k = c .before .before .before .before in
     rw (← is-first (k .before .before .before)) (then-none _ _ _ _ _ _ _ _ (k .cross-parts .ensures) (not-true (k .cross-parts .result .ok) (c .if2 .taken)))
 
-add-cross-stretch : tie.Need-add-cross-stretch
-add-cross-stretch c = let k = c .before .before .before .before .before in let f = k .before .before .before in omega (arith, low f, k .before .before .if1 .left, start f .pre .0 .ends)
+sub-more : tie.Need-sub-more
+sub-more c = let k = c .before .before .before .before in omega (arith, low (k .before .before .before), k .before .before .if1 .left)
 
-sub-cross-stretch : tie.Need-sub-cross-stretch
-sub-cross-stretch c = let k = c .before .before .before .before .before in omega (arith, low (k .before .before .before), k .before .before .if1 .left)
+add-cross-edges : tie.Need-add-cross-edges
+add-cross-edges c =
+    let k = c .before .before .before .before .before in
+    let f = k .before .before .before in
+    omega (arith, low f, k .before .before .if1 .left, start f .pre .0 .ends)
 
-cross-stretch-requires : tie.Need-cross-stretch-requires
-cross-stretch-requires c κs =
+cross-edges-requires : tie.Need-cross-edges-requires
+cross-edges-requires c κs =
     let k = c .before .before .before .before .before in
     let f = k .before .before .before in (
       omega (arith, low f, k .before .before .if1 .left, start f .pre .0 .ends, k .cross-parts .kept .1 .0),
@@ -95,7 +99,7 @@ returns-3 c =
     let t = c .before .before in
     let k = t .before .before .before .before .before .before in
     rw (← is-first (k .before .before .before))
-    (then-more _ _ _ _ _ _ _ _ (k .cross-parts .ensures) (not-false (k .cross-parts .result .ok) (t .before .before .if2 .left)) _ _ _ (t .cross-stretch .ensures))
+    (then-more _ _ _ _ _ _ _ _ (k .cross-parts .ensures) (not-false (k .cross-parts .result .ok) (t .before .before .if2 .left)) _ _ _ (t .cross-edges .ensures _ (stretch-length _ _) (λ y. refl)))
 
 pub cross-row-spec : {M : Type 1} → statement M
 cross-row-spec =
@@ -113,8 +117,8 @@ cross-row-spec =
     cross-parts-requires
     same-length-2
     returns-2
-    add-cross-stretch
-    sub-cross-stretch
-    cross-stretch-requires
+    sub-more
+    add-cross-edges
+    cross-edges-requires
     same-length-3
     returns-3)

@@ -4,10 +4,10 @@ use mathlib.Core.List.{List, [], _∷_}
 use native.Mathlib.Omega.{arith}
 use borrow.Author.Needs.{needs}
 use lib.ListN.{length}
-use Rattle.nodes.specs.Steps.{rowLength}
-use Rattle.nodes.specs.Laws.Rows.{row-length-last}
-use Rattle.walk.proofs.row_length.Statement.{statement}
-use Rattle.walk.proofs.row_length.Tie as tie
+use Rattle.nodes.specs.Steps.{blockLength}
+use Rattle.nodes.specs.Laws.Blocks.{block-length-last}
+use Rattle.walk.proofs.block_length.Statement.{statement}
+use Rattle.walk.proofs.block_length.Tie as tie
 
 none : (l : List ℕ) → length l ≡ 0 → l ≡ []
 none [] e = refl
@@ -23,12 +23,12 @@ shared-slice-read-result : tie.Need-shared-slice-read-result
 shared-slice-read-result c = search needs
 
 returns : tie.Need-returns
-returns c = sym (row-length-last _ _ (c .before .if1 .taken))
+returns c = sym (block-length-last _ _ (c .before .if1 .taken))
 
 returns-2 : tie.Need-returns-2
-unfolding rowLength
+unfolding blockLength
 returns-2 c = rw (none (c .before .args .weights .now) (omega (arith, c .if1 .left)))
 
-pub row-length-spec : {M : Type 1} → statement M
-row-length-spec =
+pub block-length-spec : {M : Type 1} → statement M
+block-length-spec =
     tie.close (tie.spec sub-result mul-result shared-slice-read-result returns returns-2)
