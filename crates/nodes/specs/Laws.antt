@@ -5,6 +5,8 @@ pub mod Steps
 pub mod Alike
 pub mod Stretch
 pub mod Blocks
+pub mod BlockEdges
+pub mod FirstReached
 pub mod Rows
 pub mod Whole
 pub mod Walk

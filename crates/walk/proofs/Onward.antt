@@ -9,7 +9,7 @@ use lib.ListN.{length, getD, take, length-take}
 use lib.Seq.{length-take-le, take-length, take-take}
 use Rattle.nodes.specs.Steps.{blockLength, rowEdges, BlockAt, updated, enteredByte, trail}
 use Rattle.nodes.specs.Laws.Alike.{Alike}
-use Rattle.nodes.specs.Laws.Blocks.{length-some, block-at, next-begins}
+use Rattle.nodes.specs.Laws.BlockEdges.{length-some, block-at, next-begins}
 use Rattle.nodes.specs.Laws.Rows.{row-walked}
 use Rattle.nodes.specs.Laws.Whole.{whole-walked}
 use Rattle.walk.specs.Progress.{Crosses, Small, Begins, wholeEdges, Onward}

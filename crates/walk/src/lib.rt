@@ -13,6 +13,13 @@ pub struct Progress {
     pub made: u32,
 }
 
+// What a step of the walk came to, and the row that is next.
+struct Step {
+    ok: bool,
+    made: u32,
+    next: usize,
+}
+
 fn clear(bytes: &mut [u8])
     ensures { λ _. ⌜ now (bytes .exit) ≡ replicate (length (now (bytes .entry))) 0 ⌝ }
 {
@@ -186,6 +193,13 @@ fn edges_inside(weights: &[usize], count: usize) -> usize
     e
 }
 
+// The number of parts but the last.
+fn all_but_one(parts: usize) -> usize
+    ensures { λ k. ⌜ k ≡ parts - 1 ⌝ }
+{
+    if 0 < parts { parts - 1 } else { 0 }
+}
+
 // How many nodes stand in a block, by the weights of the parts before it.
 fn block_length(weights: &[usize], count: usize) -> usize
     ensures { λ l. ⌜ l ≡ blockLength count (now (weights .entry)) ⌝ }
@@ -235,13 +249,6 @@ fn depth_at(weights: &[usize], count: usize, x: usize) -> usize
     i
 }
 
-// What a step of the walk came to, and the row that is next.
-struct Step {
-    ok: bool,
-    made: u32,
-    next: usize,
-}
-
 // Over the row at x.
 fn over_row(weights: &[usize], nodes: &mut [u8], x: usize, made: u32, budget: u32) -> Step
     requires { ⌜ Small (now weights) (length (now nodes)) ⌝ }
@@ -276,13 +283,6 @@ fn over_block(weights: &[usize], nodes: &mut [u8], x: usize, made: u32, budget: 
         made: p.made,
         next: x + s,
     }
-}
-
-// The number of parts but the last.
-fn all_but_one(parts: usize) -> usize
-    ensures { λ k. ⌜ k ≡ parts - 1 ⌝ }
-{
-    if 0 < parts { parts - 1 } else { 0 }
 }
 
 // One step of the walk.

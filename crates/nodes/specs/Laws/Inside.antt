@@ -14,7 +14,8 @@ use Rattle.nodes.specs.Laws.Some.{among, joined-cases, joined-among}
 use Rattle.nodes.specs.Laws.Edges.{edge-above, edge-raises}
 use Rattle.nodes.specs.Laws.Steps.{edges-by}
 use Rattle.nodes.specs.Laws.Stretch.{stretch-has, stretch-only}
-use Rattle.nodes.specs.Laws.Blocks.{size-is, block-is, weights-drop}
+use Rattle.nodes.specs.Laws.Blocks.{block-is, weights-drop}
+use Rattle.nodes.specs.Laws.BlockEdges.{size-is}
 use Rattle.nodes.specs.Laws.Whole.{edge-in}
 use Rattle.nodes.specs.Laws.Bound.{length-edges, bound-edges}
 

@@ -1,23 +1,25 @@
 -- The walk over a row of nodes: nothing up to the first reached node, and then the edges of each node, since each is entered from the one
 -- before. The row's edges part by part are the same.
-use mathlib.Core.Path.{_≡_, refl, sym, ap, _∙_}
+use mathlib.Core.Path.{_≡_, sym, ap, _∙_}
 use mathlib.Core.Logic.{⊎-elim}
-use mathlib.Core.Bool.{Bool, true, false, cond}
+use mathlib.Core.Bool.{true, cond}
 use mathlib.Core.List.{List, [], _∷_, _++_, append-nil}
 use Prim.Native.Nat.{ℕ, zero, suc, _+_, _-_, _*_, _%_, _<_, _≤_}
-use native.Mathlib.Nat.{add-suc, add-zero, le-step, lt-suc-self, not-suc-le-zero, le-of-suc-le-suc, eq-or-lt-of-le}
+use native.Mathlib.Nat.{add-suc, add-zero, le-step, lt-suc-self, eq-or-lt-of-le}
 use native.Mathlib.Omega.{arith}
-use lib.Dec.{ltb, eqb}
+use lib.Dec.{ltb}
 use lib.ListN.{length, getD, take, drop, length-drop}
 use lib.Seq.{getD-take, getD-drop, length-take-le}
-use borrow.Author.Tests.{le-ltb, lt-ltb, eq-eqb, ne-eqb, eqb-true, eqb-false}
+use borrow.Author.Tests.{le-ltb, lt-ltb, eq-eqb, ne-eqb}
 use Rattle.nodes.specs.Lattice.{nodeCount}
 use Rattle.nodes.specs.Steps.{weightsOf, Weights, edgesBy, blockLength, stretch, blockBy, rowFrom, rowEdges, firstReached, updated, enteredByte, trail}
 use Rattle.nodes.specs.Laws.Some.{among, among-one, among-end}
 use Rattle.nodes.specs.Laws.Steps.{weights-length, length-updated, entered-there}
 use Rattle.nodes.specs.Laws.Alike.{Alike, alike-equal, alike-more}
 use Rattle.nodes.specs.Laws.Stretch.{stretch-more}
-use Rattle.nodes.specs.Laws.Blocks.{blockSize, block-some, block-fits, block-ends, size-is, edges-in-block, block-none, block-more}
+use Rattle.nodes.specs.Laws.FirstReached.{first-low, first-zero, first-found}
+use Rattle.nodes.specs.Laws.Blocks.{blockSize, block-some, block-fits, edges-in-block}
+use Rattle.nodes.specs.Laws.BlockEdges.{block-ends, size-is, block-none, block-more}
 
 -- the weights of all parts but the last, and how many nodes a row has
 abbrev lead : List ℕ → List ℕ
@@ -113,37 +115,6 @@ module _ (tops b : List ℕ) (size : length b ≡ nodeCount tops) where
           rw (end, long, less, on d (omega arith) (r .there), le-ltb (f + d + 1) (rowSize tops) (omega arith), ← append-nil (stretch (x + f + 1) d))
           (alike-more (steps (x + (f + d))) (steps x) (blockBy (length b) (lead tops) (x + f) x d) (stretch (x + f + 1) d) _ [] _ (r .crossed)
           (block-more (length b) (lead tops) (x + f) x d))
-
--- ---- the first reached node
-
-pub first-low : (l : List ℕ) → firstReached l ≤ length l
-unfolding firstReached
-first-low [] = omega arith
-first-low (b ∷ l) = go (eqb b 0) (first-low l)
-  where
-    go : (t : Bool) → firstReached l ≤ length l → cond t (suc (firstReached l)) 0 ≤ length (b ∷ l)
-    go true h = omega arith
-    go false h = omega arith
-
-first-zero : (l : List ℕ) (i : ℕ) → i < firstReached l → getD l i 0 ≡ 0
-unfolding firstReached
-first-zero [] i h = refl
-first-zero (b ∷ l) i h = go (eqb b 0) refl (first-zero l) i h
-  where
-    go : (t : Bool) → eqb b 0 ≡ t → ((k : ℕ) → k < firstReached l → getD l k 0 ≡ 0) → (k : ℕ) → k < cond t (suc (firstReached l)) 0 → getD (b ∷ l) k 0 ≡ 0
-    go true e more zero k = eqb-true b 0 e
-    go true e more (suc n) k = more n (le-of-suc-le-suc k)
-    go false e more n k = absurd (not-suc-le-zero k)
-
-first-found : (l : List ℕ) → firstReached l < length l → getD l (firstReached l) 0 ≡ 0 → ⊥
-unfolding firstReached
-first-found [] h e = not-suc-le-zero h
-first-found (b ∷ l) h z = go (eqb b 0) refl (first-found l) h z
-  where
-    go : (t : Bool) → eqb b 0 ≡ t → (firstReached l < length l → getD l (firstReached l) 0 ≡ 0 → ⊥) → cond t (suc (firstReached l)) 0 < length (b ∷ l)
-        → getD (b ∷ l) (cond t (suc (firstReached l)) 0) 0 ≡ 0 → ⊥
-    go true e more k z = more (le-of-suc-le-suc k) z
-    go false e more k z = eqb-false b 0 e z
 
 module _ (tops b : List ℕ) (size : length b ≡ nodeCount tops) (x : ℕ) (inside : x < nodeCount tops) (first : x % rowSize tops ≡ 0) where
   abbrev row : List ℕ

@@ -16,7 +16,8 @@ use Rattle.nodes.specs.Laws.Numbers.{nodes-some}
 use Rattle.nodes.specs.Laws.Some.{among, among-head, among-tail, among-end, joined-among}
 use Rattle.nodes.specs.Laws.Steps.{entered-there}
 use Rattle.nodes.specs.Laws.Alike.{Alike, alike-equal, alike-more}
-use Rattle.nodes.specs.Laws.Blocks.{blockSize, block-is, weights-drop, block-fits, size-is, edges-in-block, block-none, block-more}
+use Rattle.nodes.specs.Laws.Blocks.{blockSize, block-is, weights-drop, block-fits, edges-in-block}
+use Rattle.nodes.specs.Laws.BlockEdges.{size-is, block-none, block-more}
 
 -- an edge to each node but the first
 pub edge-in : (ms : List ℕ) (x y : ℕ) → 0 < y → y < nodeCount ms

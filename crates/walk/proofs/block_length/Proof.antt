@@ -5,7 +5,7 @@ use native.Mathlib.Omega.{arith}
 use borrow.Author.Needs.{needs}
 use lib.ListN.{length}
 use Rattle.nodes.specs.Steps.{blockLength}
-use Rattle.nodes.specs.Laws.Blocks.{block-length-last}
+use Rattle.nodes.specs.Laws.BlockEdges.{block-length-last}
 use Rattle.walk.proofs.block_length.Statement.{statement}
 use Rattle.walk.proofs.block_length.Tie as tie
 

@@ -7,9 +7,9 @@ use borrow.Author.Needs.{needs}
 use borrow.Author.Tests.{not-true, not-false}
 use lib.ListN.{length, take, drop, length-take}
 use Rattle.nodes.specs.Steps.{firstReached, updated}
-use Rattle.nodes.specs.Laws.Blocks.{row-past}
+use Rattle.nodes.specs.Laws.BlockEdges.{row-past}
 use Rattle.nodes.specs.Laws.Stretch.{stretch-length}
-use Rattle.nodes.specs.Laws.Rows.{first-low}
+use Rattle.nodes.specs.Laws.FirstReached.{first-low}
 use Rattle.walk.proofs.Crossing.{went-through, paid-for, then-more, then-none}
 use Rattle.walk.proofs.cross_row.Statement.{statement}
 use Rattle.walk.proofs.cross_row.Tie as tie

@@ -7,7 +7,7 @@ use borrow.Author.Tests.{not-true, not-false}
 use lib.ListN.{length, take, drop, length-drop}
 use lib.Seq.{length-take-le, take-all}
 use Rattle.nodes.specs.Steps.{blockLength, insideBy, BlockAt}
-use Rattle.nodes.specs.Laws.Blocks.{length-some, block-at}
+use Rattle.nodes.specs.Laws.BlockEdges.{length-some, block-at}
 use Rattle.nodes.specs.Laws.Inside.{block-weights, inside-long, inside-places}
 use Rattle.walk.specs.Progress.{Small, Begins}
 use Rattle.walk.proofs.Crossing.{paid-for, then-more, then-none}

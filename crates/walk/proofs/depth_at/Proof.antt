@@ -6,7 +6,7 @@ use native.Mathlib.Omega.{arith}
 use borrow.Author.Needs.{needs}
 use lib.ListN.{length, take}
 use Rattle.nodes.specs.Steps.{blockLength}
-use Rattle.nodes.specs.Laws.Blocks.{block-length-next}
+use Rattle.nodes.specs.Laws.BlockEdges.{block-length-next}
 use Rattle.walk.proofs.depth_at.Statement.{statement}
 use Rattle.walk.proofs.depth_at.Tie as tie
 
