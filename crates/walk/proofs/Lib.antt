@@ -1,2 +1,4 @@
 pub mod Crossing
+pub mod Parts
+pub mod Inside
 pub mod Onward

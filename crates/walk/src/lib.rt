@@ -298,7 +298,7 @@ fn step_on(weights: &[usize], nodes: &mut [u8], x: usize, made: u32, budget: u32
     over_block(weights, nodes, x, made, budget)
 }
 
-// Walks all nodes in the order of their numbers.
+// Walks all nodes in the order of their numbers, step by step.
 fn walk(weights: &[usize], nodes: &mut [u8], budget: u32) -> Progress
     requires { ⌜ Small (now weights) (length (now nodes)) ⌝ }
     ensures { λ r. ⌜ Crosses (trail (now (weights .entry)) (now (nodes .entry)) (length (now (nodes .entry)))) 0 budget (now (nodes .entry)) (now (nodes .exit)) (r .ok) (r .made) ⌝ }

@@ -31,7 +31,7 @@ part-enter-all-end : tie.Need-part-enter-all-end
 part-enter-all-end c = search needs
 
 enter-all-requires : tie.Need-enter-all-requires
-enter-all-requires c κs = search needs
+enter-all-requires c κs = tt
 
 cast-t9 : tie.Need-cast-t9
 cast-t9 c = search needs

@@ -28,7 +28,7 @@ low f =
     omega (arith, is-first f, first-low row, length-take (a .l) (drop (a .x) (a .nodes .now)))
 
 add-end : tie.Need-add-end
-add-end c = search needs
+add-end c = omega (arith, c .before .before .pre .0 .ends)
 
 sub-first-reached : tie.Need-sub-first-reached
 sub-first-reached c = search needs
@@ -40,10 +40,10 @@ part-first-reached-end : tie.Need-part-first-reached-end
 part-first-reached-end c = search needs
 
 first-reached-requires : tie.Need-first-reached-requires
-first-reached-requires c κs = search needs
+first-reached-requires c κs = tt
 
 same-length : tie.Need-same-length
-same-length c = search needs
+same-length c = refl
 
 returns : tie.Need-returns
 unfolding updated
@@ -67,7 +67,7 @@ cross-parts-requires c κs =
     (rw whole (start f .pre .0), start f .pre .1)
 
 same-length-2 : tie.Need-same-length-2
-same-length-2 c = search needs
+same-length-2 c = c .before .before .before .before .cross-parts .kept .1 .0
 
 returns-2 : tie.Need-returns-2
 returns-2 c =
@@ -92,7 +92,7 @@ cross-edges-requires c κs =
     )
 
 same-length-3 : tie.Need-same-length-3
-same-length-3 c = search needs
+same-length-3 c = c .before .before .cross-edges .kept .0 ∙ c .before .before .before .before .before .before .before .before .cross-parts .kept .1 .0
 
 returns-3 : tie.Need-returns-3
 returns-3 c =

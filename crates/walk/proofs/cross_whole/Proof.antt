@@ -43,7 +43,7 @@ slice-aggregate-block-length : tie.Need-slice-aggregate-block-length
 slice-aggregate-block-length c = let s = c .before .before .before in sym (length-take-le _ _ (s .pre .1 .0 .part))
 
 block-length-requires : tie.Need-block-length-requires
-block-length-requires c κs = search needs
+block-length-requires c κs = tt
 
 slice-aggregate-cross-parts : tie.Need-slice-aggregate-cross-parts
 slice-aggregate-cross-parts c = let s = c .before .before .before .before .before in sym (length-take-le _ _ (s .pre .1 .0 .part))
@@ -52,7 +52,7 @@ cross-parts-requires : tie.Need-cross-parts-requires
 cross-parts-requires c κs = let b = c .before .before in (block _ _ _ _ _ (start b .pre .0) (start b .pre .1 .0) (b .block-length .ensures), start b .pre .1 .1)
 
 same-length : tie.Need-same-length
-same-length c = search needs
+same-length c = c .before .before .before .before .cross-parts .kept .1 .0
 
 returns : tie.Need-returns
 returns c =
@@ -89,7 +89,7 @@ cross-edges-requires c κs =
     )
 
 same-length-2 : tie.Need-same-length-2
-same-length-2 c = search needs
+same-length-2 c = c .before .before .cross-edges .kept .0 ∙ c .before .before .before .before .before .before .before .before .before .before .cross-parts .kept .1 .0
 
 returns-2 : tie.Need-returns-2
 returns-2 c =

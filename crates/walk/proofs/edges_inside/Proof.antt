@@ -1,81 +1,12 @@
-use mathlib.Core.Path.{_≡_, sym, ap, _∙_}
-use mathlib.Core.List.{List, _∷_}
-use Prim.Native.Nat.{ℕ, suc, _+_, _-_, _*_, _/_, _<_, _≤_}
-use native.Mathlib.Nat.{add-zero, mul-div-left, mul-le-mul}
-use native.Mathlib.Numerals.{add-one}
+use mathlib.Core.Path.{sym, _∙_}
+use Prim.Native.Nat.{_+_, _-_, _*_, _/_, _<_, _≤_}
 use native.Mathlib.Omega.{arith}
 use borrow.Author.Needs.{needs}
-use lib.ListN.{length, getD, drop, drop-of-length-le}
-use lib.Seq.{drop-cons}
-use Rattle.nodes.specs.Lattice.{nodeCount, boundFrom, bound}
-use Rattle.nodes.specs.Laws.Numbers.{nodes-some}
-use Rattle.nodes.specs.Laws.Steps.{weights-length, weight-at}
-use Rattle.nodes.specs.Laws.Bound.{bound-small}
+use lib.ListN.{length, getD}
 use Rattle.nodes.specs.Laws.Inside.{inside-long}
-use Rattle.walk.specs.Progress.{Small}
+use Rattle.walk.proofs.Inside.{Left, begin, finish, part, some, levels, fits, more}
 use Rattle.walk.proofs.edges_inside.Statement.{statement}
 use Rattle.walk.proofs.edges_inside.Tie as tie
-
--- what is left to add: the edges for the parts from i on, over which there are `span` nodes
-record Left (ws : List ℕ) (count e span i : ℕ) : Type 0 where
-  small : Small ws count
-  low : i ≤ length ws
-  here : span ≡ nodeCount (drop i (small .lattice .tops))
-  sum : e + boundFrom count (drop i (small .lattice .tops)) ≡ bound (small .lattice .tops)
-
-divided : (span w m v : ℕ) → span ≡ m * v → w ≡ v → 0 < v → span / w ≡ m
-divided span w m v e f h = rw (e, f) (mul-div-left m h)
-
-begin : (ws : List ℕ) (count : ℕ) → Small ws count → Left ws count 0 count 0
-unfolding bound
-begin ws count s =
-    record { small = s; low = omega arith; here = s .lattice .count-is; sum = rw (s .lattice .count-is) (omega arith) }
-
-module _ (ws : List ℕ) (count e span i : ℕ) (s : Left ws count e span i) where
-  abbrev tops : List ℕ
-  tops = s .small .lattice .tops
-
-  long : length ws ≡ length tops
-  long = ap length (s .small .lattice .weights-are) ∙ weights-length tops
-
-  finish : length ws ≤ i → e ≡ bound tops
-  unfolding boundFrom
-  finish h = sym (add-zero e) ∙ (rw (drop-of-length-le tops {i = i} (omega (arith, long))) at (s .sum))
-
-  module _ (h : i < length ws) where
-    abbrev top : ℕ
-    top = getD tops i 0
-
-    part : drop i tops ≡ top ∷ drop (suc i) tops
-    part = drop-cons tops i 0 (omega (arith, long))
-
-    weight : getD ws i 0 ≡ nodeCount (drop (suc i) tops)
-    weight = ap (λ (l : List ℕ). getD l i 0) (s .small .lattice .weights-are) ∙ weight-at tops i (omega (arith, long))
-
-    some : 0 < getD ws i 0
-    some = rw weight (nodes-some (drop (suc i) tops))
-
-    levels : span / getD ws i 0 ≡ top + 1
-    unfolding nodeCount
-    levels = divided span (getD ws i 0) (top + 1) (nodeCount (drop (suc i) tops)) (s .here ∙ rw part) weight (nodes-some (drop (suc i) tops))
-
-    added : e + count / (top + 1) * top + boundFrom count (drop (suc i) tops) ≡ bound tops
-    unfolding boundFrom
-    added = (let e = rw part at (s .sum) in omega (arith, e))
-
-    -- as the code adds it
-    term : count / (span / getD ws i 0) * (span / getD ws i 0 - 1) ≡ count / (top + 1) * top
-    term = let less : top + 1 - 1 ≡ top = omega arith in rw (levels, less)
-
-    fits : e + count / (span / getD ws i 0) * (span / getD ws i 0 - 1) ≤ 262144
-    fits =
-        let parts : length tops ≤ 8 = omega (arith, long, s .small .parts) in
-        let nodes : nodeCount tops ≤ 32768 = omega (arith, s .small .nodes, s .small .lattice .count-is) in
-        let most : length tops * nodeCount tops ≤ 8 * 32768 = mul-le-mul parts nodes in
-        omega (arith, term, added, bound-small tops, most)
-
-    more : Left ws count (e + count / (span / getD ws i 0) * (span / getD ws i 0 - 1)) (getD ws i 0) (i + 1)
-    more = record { small = s .small; low = omega arith; here = rw (add-one i) weight; sum = rw (term, add-one i) added }
 
 abbrev Inv-loop : tie.InvT-loop
 Inv-loop weights count e₀ span₀ i₀ e span i = Left weights count e span i

@@ -1,6 +1,5 @@
 use mathlib.Core.Path.{refl, sym}
 use native.Mathlib.Omega.{arith}
-use borrow.Author.Needs.{needs}
 use lib.Seq.{length-take-le}
 use Rattle.walk.proofs.Onward.{lead, lead-begins, row, block-begins, block-ends, over-block}
 use Rattle.walk.proofs.over_block.Statement.{statement}
@@ -10,7 +9,7 @@ abbrev start : tie.After-all-but-one → tie.Start
 start m = m .before .before .before
 
 all-but-one-requires : tie.Need-all-but-one-requires
-all-but-one-requires c κs = search needs
+all-but-one-requires c κs = tt
 
 slice-aggregate-depth-at : tie.Need-slice-aggregate-depth-at
 slice-aggregate-depth-at c = let m = c .before in sym (lead _ (start m .args .nodes .now) _ _ (start m .pre .0) (start m .pre .1 .0) (m .all-but-one .ensures))
@@ -27,7 +26,7 @@ slice-aggregate-block-length c =
     sym (length-take-le _ _ (block-begins _ (start m .args .nodes .now) _ _ (start m .pre .0) (start m .pre .1 .0) (m .all-but-one .ensures) _ (d .depth-at .ensures) .part))
 
 block-length-requires : tie.Need-block-length-requires
-block-length-requires c κs = search needs
+block-length-requires c κs = tt
 
 cross-whole-requires : tie.Need-cross-whole-requires
 cross-whole-requires c κs =
@@ -43,7 +42,7 @@ add-t10 c =
     omega (arith, block-ends _ (start m .args .nodes .now) _ _ (start m .pre .0) (start m .pre .1 .0) (m .all-but-one .ensures) _ (d .depth-at .ensures) _ (b .block-length .ensures))
 
 same-length : tie.Need-same-length
-same-length c = search needs
+same-length c = c .before .before .cross-whole .kept .1 .0
 
 returns : tie.Need-returns
 returns c =

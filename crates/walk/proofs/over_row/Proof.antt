@@ -1,6 +1,5 @@
 use mathlib.Core.Path.{sym}
 use native.Mathlib.Omega.{arith}
-use borrow.Author.Needs.{needs}
 use Rattle.walk.proofs.Onward.{lead, row, over-row}
 use Rattle.walk.proofs.over_row.Statement.{statement}
 use Rattle.walk.proofs.over_row.Tie as tie
@@ -9,13 +8,13 @@ abbrev start : tie.After-all-but-one → tie.Start
 start m = m .before .before .before
 
 all-but-one-requires : tie.Need-all-but-one-requires
-all-but-one-requires c κs = search needs
+all-but-one-requires c κs = tt
 
 slice-aggregate-block-length : tie.Need-slice-aggregate-block-length
 slice-aggregate-block-length c = let m = c .before in sym (lead _ (start m .args .nodes .now) _ _ (start m .pre .0) (start m .pre .1 .0) (m .all-but-one .ensures))
 
 block-length-requires : tie.Need-block-length-requires
-block-length-requires c κs = search needs
+block-length-requires c κs = tt
 
 slice-aggregate-cross-row : tie.Need-slice-aggregate-cross-row
 slice-aggregate-cross-row c = let m = c .before .before .before in sym (lead _ (start m .args .nodes .now) _ _ (start m .pre .0) (start m .pre .1 .0) (m .all-but-one .ensures))
@@ -33,7 +32,7 @@ add-t9 c =
     omega (arith, row _ (start m .args .nodes .now) _ _ (start m .pre .0) (start m .pre .1 .0) (m .all-but-one .ensures) _ (b .block-length .ensures) .ends)
 
 same-length : tie.Need-same-length
-same-length c = search needs
+same-length c = c .before .before .cross-row .kept .1 .0
 
 returns : tie.Need-returns
 returns c =

@@ -9,7 +9,7 @@ over-row-requires : tie.Need-over-row-requires
 over-row-requires c κs = c .before .before .before .before .before .pre
 
 same-length : tie.Need-same-length
-same-length c = search needs
+same-length c = c .before .before .over-row .kept .1 .0
 
 returns : tie.Need-returns
 returns c = c .before .before .over-row .ensures
@@ -18,7 +18,7 @@ over-block-requires : tie.Need-over-block-requires
 over-block-requires c κs = let s = c .before .before .before .before .before in (s .pre .0, (s .pre .1 .0, (c .before .if1 .left, s .pre .1 .1)))
 
 same-length-2 : tie.Need-same-length-2
-same-length-2 c = search needs
+same-length-2 c = c .before .before .over-block .kept .1 .0
 
 returns-2 : tie.Need-returns-2
 returns-2 c = c .before .before .over-block .ensures
