@@ -138,12 +138,6 @@ fn put_run(out: &mut [u8], at: usize, row: &[i32]) -> usize
 
 // ---- the stream
 
-fn wide(x: u8) -> usize
-    ensures { λ r. ⌜ r ≡ x ⌝ }
-{
-    x as usize
-}
-
 // The named value at place k, where it belongs to the preference at place i.
 fn put_named_of(out: &mut [u8], at: usize, list: PreferenceList, i: usize, k: usize) -> usize
     requires { ⌜ (at + 6 < 2 ^ 64) × (k < 64) ⌝ }
@@ -151,7 +145,7 @@ fn put_named_of(out: &mut [u8], at: usize, list: PreferenceList, i: usize, k: us
 {
     let e = list.named[k];
     let owner = e.preference;
-    if wide(owner) != i {
+    if arith::wide(owner) != i {
         return at;
     }
     put_named(out, at, e)
