@@ -1,5 +1,5 @@
 -- What decides a part of a level vector, and the rows that a table holds of a part.
-use Prim.Native.Nat.{ℕ, _+_, _*_, _<_, _≤_}
+use Prim.Native.Nat.{ℕ, _+_, _*_, _%_, _<_, _≤_}
 use mathlib.Core.Path.{_≡_}
 use mathlib.Core.Bool.{cond}
 use mathlib.Core.List.{List}
@@ -10,6 +10,8 @@ use Rattle.constructor.specs.Level.{scaleOf, targetOf, layeringOf}
 use Rattle.constructor.specs.declared.Layering.the-variants.{Numeric}
 use Rattle.preference.specs.List.{preferenceAt}
 use Rattle.preference.specs.Level.{layerOf}
+use Rattle.runs.specs.Log.{rowAt}
+use Rattle.preference.specs.Names.{among}
 use Rattle.preference.specs.Parts.{levels, maxLevels}
 use Rattle.preference.specs.declared.Preference.{Preference}
 use Rattle.preference.specs.declared.PreferenceList.{PreferenceList}
@@ -35,6 +37,10 @@ ruleOf l k = cond (leb (length (maxLevels l)) k) zeroRule (ruleFor (preferenceAt
 -- part k is a layer, and others the layer of other values
 pub record Layered (l : PreferenceList) (k others : ℕ) : Type 0 where
   pub level : (row : List ℤ) → layerOf l k (getD row (ruleOf l k .column) (pos 0)) others ≡ getD (levels l row) k 0
+
+-- the layer of row r among named values, in 16 bits
+abbrev pub rowLayer : List ℤ → List ℕ → ℕ → ℕ → List ℤ → ℕ → ℕ → ℕ
+rowLayer values layers count others log column r = among values layers count (getD (rowAt log r) column (pos 0)) others % 65536
 
 -- m of n rows are those of which part k has a place in a table
 pub record RowsIn (n table k m : ℕ) : Type 0 where

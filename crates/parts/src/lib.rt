@@ -7,7 +7,7 @@ ghost use lib.IntN.{pos};
 ghost use lib.ListN.{getD, length};
 ghost use Rattle.runs.specs.Log.{rowAt};
 ghost use Rattle.parts.specs.Table.{partAt, withPart};
-ghost use Rattle.parts.specs.Rule.{ruleOf, Layered, RowsIn};
+ghost use Rattle.parts.specs.Rule.{rowLayer, ruleOf, Layered, RowsIn};
 
 // What decides a part of a level vector: the values of a column, by their distance from low..up or by layers.
 struct Rule {
@@ -90,6 +90,29 @@ fn fill_distances(list: PreferenceList, log: &[i32], k: usize, table: &mut [u16]
     }
 }
 
+// Part k from named values and their layers.
+fn fill_named(
+    values: &[i32],
+    layers: &[u8],
+    count: usize,
+    others: u8,
+    log: &[i32],
+    column: usize,
+    k: usize,
+    table: &mut [u16],
+)
+    ensures { λ _. ⌜ now (table .exit) ≡ withPart (rowLayer (now (values .entry)) (now (layers .entry)) count others (now (log .entry)) column) k (length (now (log .entry)) / 8) (now (table .entry)) ⌝ }
+{
+    let n = rows_in(log.len(), table.len(), k);
+    let mut r: usize = 0;
+    while r < n {
+        let v = value_at(log, r, column);
+        let layer = preference::layer_among(values, layers, count, v, others);
+        table[8 * r + k] = layer as u16;
+        r += 1;
+    }
+}
+
 // Part k of a form with layers.
 fn fill_layers(list: PreferenceList, log: &[i32], k: usize, others: u8, table: &mut [u16])
     requires { ⌜ Layered list k others ⌝ }
@@ -101,14 +124,7 @@ fn fill_layers(list: PreferenceList, log: &[i32], k: usize, others: u8, table: &
     let values = names.values;
     let layers = names.layers;
     let count = names.count;
-    let n = rows_in(log.len(), table.len(), k);
-    let mut r: usize = 0;
-    while r < n {
-        let v = value_at(log, r, column);
-        let layer = preference::layer_among(&values, &layers, count, v, others);
-        table[8 * r + k] = layer as u16;
-        r += 1;
-    }
+    fill_named(&values, &layers, count, others, log, column, k, table);
 }
 
 // Sets part k of the rows of a table, eight places to a row, to part k of the level vectors of a log, in 16 bits.

@@ -35,3 +35,8 @@ module _ (f : ℕ → ℕ) (k : ℕ) (t : List ℕ) where
 
   pub with-part-end : (n m : ℕ) → RowsIn n (length t) k m → withPart f k m t ≡ withPart f k n t
   with-part-end n m h = past-end m n (h .few) (h .beyond)
+
+pub with-part-cong : (f g : ℕ → ℕ) (k : ℕ) (t : List ℕ) (n : ℕ) → ((r : ℕ) → f r ≡ g r) → withPart f k n t ≡ withPart g k n t
+unfolding withPart
+with-part-cong f g k t zero h = refl
+with-part-cong f g k t (suc n) h = rw (with-part-cong f g k t n h, h n)
