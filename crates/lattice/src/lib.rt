@@ -13,7 +13,7 @@ ghost use Rattle.preference.specs.Parts.{maxLevels, levels, rowNumber};
 ghost use Rattle.pareto.specs.Checked.{marksNumber, rowsNumber, checkedNumber};
 ghost use Rattle.nodes.specs.Lattice.{nodeCount, nodeId};
 ghost use Rattle.nodes.specs.Steps.{weightsOf};
-ghost use Rattle.walk.specs.Progress.{Settles};
+ghost use Rattle.settle.specs.Settled.{Settles};
 ghost use Rattle.lattice.specs.Engine.{Ran};
 ghost use Rattle.lattice.specs.Numbers.{Weighs, Weighed, rowNode, rowNodes};
 
@@ -106,7 +106,7 @@ fn walk_rows(
     let rows = marks.len();
     let mut numbers = [0u16; 1024];
     fill_numbers(list, weights, log, &mut numbers[..rows]);
-    walk::settle(weights, &numbers[..rows], marks, nodes, budget)
+    settle::settle(weights, &numbers[..rows], marks, nodes, budget)
 }
 
 // ---- the call

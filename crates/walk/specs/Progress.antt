@@ -1,11 +1,11 @@
 -- What the walk's functions promise: a walk may run out of its budget.
 use Prim.Native.Nat.{ℕ, _+_, _-_, _%_, _<_, _≤_}
-use mathlib.Core.Bool.{Bool, true, cond}
+use mathlib.Core.Bool.{Bool, true}
 use mathlib.Core.List.{List, _++_}
 use mathlib.Core.Path.{_≡_}
 use lib.Dec.{leb}
-use lib.ListN.{length, take, drop, replicate}
-use Rattle.nodes.specs.Steps.{Weights, blockLength, stretch, blockBy, insideBy, updated, opened, enteredByte, trail, markedBy}
+use lib.ListN.{length, take, drop}
+use Rattle.nodes.specs.Steps.{Weights, blockLength, stretch, blockBy, insideBy, updated, enteredByte, trail}
 use Rattle.nodes.specs.Laws.Some.{among}
 use Rattle.nodes.specs.Laws.Alike.{Alike}
 
@@ -44,13 +44,3 @@ pub record Onward (weights : List ℕ) (x made budget : ℕ) (before after : Lis
   pub beyond : x < next
   pub ends : next ≤ length before
   pub begins : next % blockLength (length before) (take (length weights - 1) weights) ≡ 0
-
--- the engine on weights and node numbers, for n nodes
-abbrev pub crossed : List ℕ → List ℕ → ℕ → List ℕ
-crossed weights numbers n = trail weights (opened n numbers) n
-
-pub record Settles (weights numbers : List ℕ) (n budget : ℕ) (marks : List ℕ) (ok : Bool) (count : ℕ) (marks′ nodes′ : List ℕ) : Type 0 where
-  pub enough : ok ≡ leb (length (crossed weights numbers n)) budget
-  pub counted : ok ≡ true → count ≡ length (crossed weights numbers n)
-  pub nodes-are : nodes′ ≡ cond ok (updated enteredByte (crossed weights numbers n) (opened n numbers)) (replicate n 0)
-  pub marks-are : marks′ ≡ cond ok (markedBy nodes′ numbers) marks

@@ -12,7 +12,8 @@ use Rattle.preference.specs.Laws.Parts.{parts-few}
 use Rattle.preference.specs.declared.PreferenceList.{PreferenceList}
 use Rattle.nodes.specs.Lattice.{nodeCount}
 use Rattle.nodes.specs.Laws.Steps.{weights-length}
-use Rattle.walk.specs.Progress.{Small, Settles}
+use Rattle.walk.specs.Progress.{Small}
+use Rattle.settle.specs.Settled.{Settles}
 use Rattle.lattice.specs.Numbers.{Weighed}
 use Rattle.lattice.proofs.walk_rows.Statement.{statement}
 use Rattle.lattice.proofs.walk_rows.Tie as tie

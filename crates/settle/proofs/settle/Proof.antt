@@ -9,9 +9,10 @@ use lib.ListN.{length, replicate}
 use Rattle.laws.specs.Laws.Bools.{false-true}
 use Rattle.nodes.specs.Steps.{updated, heldByte, opened, trail, markedBy}
 use Rattle.nodes.specs.Laws.Steps.{opened-length}
-use Rattle.walk.specs.Progress.{Crosses, crossed, Settles}
-use Rattle.walk.proofs.settle.Statement.{statement}
-use Rattle.walk.proofs.settle.Tie as tie
+use Rattle.walk.specs.Progress.{Crosses}
+use Rattle.settle.specs.Settled.{crossed, Settles}
+use Rattle.settle.proofs.settle.Statement.{statement}
+use Rattle.settle.proofs.settle.Tie as tie
 
 -- from what the walk promises
 module _ (weights numbers : List ℕ) (n budget : ℕ) (b after : List ℕ) (ok : Bool) (made : ℕ) (base : b ≡ opened n numbers)

@@ -1,0 +1,88 @@
+// The lattice engine on weights and node numbers: it marks the nodes that rows hold, walks over the nodes, and reads each row's mark from
+// its node.
+use walk::Progress;
+ghost use mathlib.Core.Path.{_≡_};
+ghost use lib.ListN.{length, replicate, getD, set};
+ghost use Rattle.nodes.specs.Steps.{updated, heldByte, byteMark, markedBy};
+ghost use Rattle.walk.specs.Progress.{Small};
+ghost use Rattle.settle.specs.Settled.{Settles};
+
+fn clear(bytes: &mut [u8])
+    ensures { λ _. ⌜ now (bytes .exit) ≡ replicate (length (now (bytes .entry))) 0 ⌝ }
+{
+    let mut i = 0;
+    while i < bytes.len() {
+        bytes[i] = 0;
+        i += 1;
+    }
+}
+
+// A number past the nodes holds none.
+fn hold_node(nodes: &mut [u8], x: usize)
+    ensures { λ _. ⌜ now (nodes .exit) ≡ set (now (nodes .entry)) x 1 ⌝ }
+{
+    if x < nodes.len() {
+        nodes[x] = 1;
+    }
+}
+
+// Marks the node of each row as held.
+fn hold(numbers: &[u16], nodes: &mut [u8])
+    ensures { λ _. ⌜ now (nodes .exit) ≡ updated heldByte (now (numbers .entry)) (now (nodes .entry)) ⌝ }
+{
+    let mut r = 0;
+    while r < numbers.len() {
+        let x = numbers[r] as usize;
+        hold_node(nodes, x);
+        r += 1;
+    }
+}
+
+// The mark of a row by the byte of its node; 0 past the nodes.
+fn mark_of(nodes: &[u8], x: usize) -> u8
+    ensures { λ r. ⌜ r ≡ byteMark (getD (now (nodes .entry)) x 0) ⌝ }
+{
+    if x < nodes.len() {
+        if nodes[x] == 1 {
+            return 1;
+        }
+    }
+    0
+}
+
+// Writes each row's mark.
+fn write_marks(numbers: &[u16], nodes: &[u8], marks: &mut [u8])
+    requires { ⌜ length (now marks) ≡ length (now numbers) ⌝ }
+    ensures { λ _. ⌜ now (marks .exit) ≡ markedBy (now (nodes .entry)) (now (numbers .entry)) ⌝ }
+{
+    let mut r = 0;
+    while r < numbers.len() {
+        let x = numbers[r] as usize;
+        marks[r] = mark_of(nodes, x);
+        r += 1;
+    }
+}
+
+// The engine on weights and node numbers: a number and a mark for each row, a byte for each node. Marks are written only where the budget
+// is enough.
+pub fn settle(
+    weights: &[usize],
+    numbers: &[u16],
+    marks: &mut [u8],
+    nodes: &mut [u8],
+    budget: u32,
+) -> Progress
+    requires { ⌜ Small (now weights) (length (now nodes)) ⌝ }
+    requires { ⌜ length (now marks) ≡ length (now numbers) ⌝ }
+    ensures { λ r. ⌜ Settles (now (weights .entry)) (now (numbers .entry)) (length (now (nodes .entry))) budget (now (marks .entry)) (r .ok) (r .made) (now (marks .exit)) (now (nodes .exit)) ⌝ }
+{
+    clear(nodes);
+    hold(numbers, nodes);
+    let p = walk::walk(weights, nodes, budget);
+    if !p.ok {
+        clear(nodes);
+        return p;
+    }
+    write_marks(numbers, nodes, marks);
+    p
+}
