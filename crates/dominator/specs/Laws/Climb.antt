@@ -1,5 +1,5 @@
 -- A climb step by step, and that on the level table of an accepted log it ends on the shortlist.
-use mathlib.Core.Path.{_≡_, refl, sym, ap, _∙_}
+use mathlib.Core.Path.{_≡_, refl, sym, _∙_}
 use Prim.Native.Nat.{ℕ, _+_, _*_, _<_, _≤_}
 use native.Mathlib.Omega.{arith}
 use native.Mathlib.Nat.{not-suc-le-zero}
@@ -8,20 +8,19 @@ use mathlib.Core.List.{List}
 use mathlib.Core.Logic.{_⊎_, inl, inr, ⊎-elim}
 use lib.Dec.{eqb}
 use lib.IntN.{ℤ}
-use lib.ListN.{length, take, drop}
-use lib.Seq.{sets, sets-eq, take-at}
+use lib.ListN.{length, take}
+use lib.Seq.{sets}
 use borrow.Author.Tests.{eq-eqb, eqb-true, eqb-false}
 use borrow.Author.Count.{below-more}
 use Rattle.laws.specs.Lists.{anyOf}
 use Rattle.laws.specs.Laws.AnyOf.{passing-found}
-use Rattle.laws.specs.Laws.Joined.{singles-length}
 use Rattle.runs.specs.Log.{rowCount}
 use Rattle.preference.specs.declared.PreferenceList.{PreferenceList}
 use Rattle.pareto.specs.Best.{competes, competing, vectorAt, rowDominates, isBest}
-use Rattle.pareto.specs.Table.{tableEntry, tableOf, compared}
+use Rattle.pareto.specs.Table.{tableOf, compared}
 use Rattle.pareto.specs.Laws.Best.{row-transitive}
 use Rattle.pareto.specs.Laws.Dominance.{dominates-irreflexive}
-use Rattle.pareto.specs.Laws.Table.{compared-dominates}
+use Rattle.pareto.specs.Laws.Table.{compared-dominates, table-front}
 use Rattle.dominator.specs.Climb.{higher, Ladder, Climb, Accepted, Climbed}
 
 module _ (table : List ℕ) (n row : ℕ) (h : Ladder table n row) where
@@ -71,16 +70,9 @@ module _ (l : PreferenceList) (log : List ℤ) (row : ℕ) (a : Accepted l log r
     transitive = λ p q r b c d e f. row-compared p r b d (row-transitive l log p q r (compared-row p q b c e) (compared-row q r c d f));
   }
 
-  table-long : length (tableOf l log) ≡ 8 * rowCount log
-  unfolding tableOf
-  table-long = singles-length (tableEntry l log) (8 * rowCount log)
-
   -- the table at the front of a local array
   pub front : (zeros : List ℕ) → 8192 ≤ length zeros → take (8 * rowCount log) (sets zeros 0 (tableOf l log)) ≡ tableOf l log
-  front zeros h =
-      let n = table-long in
-      ap (take (8 * rowCount log)) (sets-eq (tableOf l log) zeros 0 (omega (arith, a .few)))
-      ∙ take-at (tableOf l log) (drop (0 + length (tableOf l log)) zeros) (8 * rowCount log) n
+  front zeros h = table-front l log zeros (omega (arith, a .few))
 
   every-competes : (r : ℕ) → competes log r ≡ true
   unfolding competes

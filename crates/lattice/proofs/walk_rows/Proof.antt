@@ -66,7 +66,7 @@ slice-aggregate-fill-numbers c = sym (front (c .before .before .before .before))
 fill-numbers-requires : tie.Need-fill-numbers-requires
 fill-numbers-requires c κs =
     let s = c .before .before .before .before in
-    (s .pre .0, (s .pre .1 .1 .0, front s ∙ s .pre .1 .1 .1 .1))
+    (s .pre .0, (s .pre .1 .0, (s .pre .1 .1 .0, front s ∙ s .pre .1 .1 .1 .1)))
 
 array-share-prefix-numbers : tie.Need-array-share-prefix-numbers
 array-share-prefix-numbers c = rw (length-append (numbers (c .before))) (omega (arith, numbers-long (c .before)))

@@ -1,5 +1,5 @@
 -- A look at two rows of the level table of an accepted list and log tells which of them dominates the other.
-use mathlib.Core.Path.{_≡_, refl, sym, _∙_}
+use mathlib.Core.Path.{_≡_, refl, sym, ap, _∙_}
 use Prim.Native.Nat.{ℕ, _+_, _*_, _/_, _%_, _<_, _≤_}
 use native.Mathlib.Omega.{arith}
 use native.Mathlib.Nat.{mod-eq-of-lt}
@@ -8,12 +8,14 @@ use mathlib.Core.Bool.{Bool, true, false, not, _&&_, _||_, cond}
 use mathlib.Core.List.{List, [], _∷_}
 use lib.Dec.{leb, ltb, eqb}
 use lib.IntN.{ℤ}
-use lib.ListN.{length, getD, List·getD-eq-default}
+use lib.ListN.{length, getD, take, List·getD-eq-default}
+use lib.Seq.{sets}
 use borrow.Author.Tests.{ltb-true, lt-ltb, le-ltb, leb-true, leb-false}
 use Rattle.laws.specs.First.{anyBelow}
 use Rattle.laws.specs.Laws.Bools.{both-ways}
 use Rattle.laws.specs.Laws.First.{any-found, any-at, any-cong, number-zero}
 use Rattle.laws.specs.Laws.Joined.{singles-at, singles-length}
+use Rattle.laws.specs.Laws.Stores.{stored-front}
 use Rattle.runs.specs.Log.{rowCount, rowAt}
 use Rattle.preference.specs.Valid.{listNumber}
 use Rattle.preference.specs.Parts.{levels, maxLevels, rowNumber}
@@ -54,6 +56,16 @@ some-of-eight v w l h =
 
 -- ---- the table
 
+pub table-long : (l : PreferenceList) (log : List ℤ) → length (tableOf l log) ≡ 8 * rowCount log
+unfolding tableOf
+table-long l log = singles-length (tableEntry l log) (8 * rowCount log)
+
+-- it stands at the front of a list that it was stored in
+pub table-front : (l : PreferenceList) (log : List ℤ) (lent : List ℕ) → 8 * rowCount log ≤ length lent → take (8 * rowCount log) (sets lent 0 (tableOf l log)) ≡ tableOf l log
+table-front l log lent h =
+    let n = table-long l log in
+    ap (λ (k : ℕ). take k (sets lent 0 (tableOf l log))) (sym n) ∙ stored-front lent (tableOf l log) (omega arith)
+
 module _ (l : PreferenceList) (log : List ℤ) (e : listNumber l ≡ 0) (f : rowsNumber l log ≡ 0) where
   level-small : (a : ℕ) → a < rowCount log → (k : ℕ) → getD (vectorAt l log a) k 0 < 65536
   unfolding vectorAt rowsNumber
@@ -70,8 +82,7 @@ module _ (l : PreferenceList) (log : List ℤ) (e : listNumber l ≡ 0) (f : row
       ∙ rw (p, q) (mod-eq-of-lt (level-small a h k))
 
   table-rows : length (tableOf l log) / 8 ≡ rowCount log
-  unfolding tableOf
-  table-rows = let n = singles-length (tableEntry l log) (8 * rowCount log) in omega arith
+  table-rows = omega (arith, table-long l log)
 
   lower-some : (a b : ℕ) → a < rowCount log → b < rowCount log → anyBelow (lower (tableOf l log) (8 * a) (8 * b)) 8 ≡ someBelow (vectorAt l log a) (vectorAt l log b)
   unfolding vectorAt
