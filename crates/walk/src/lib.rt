@@ -234,6 +234,26 @@ fn over_row(weights: &[usize], nodes: &mut [u8], x: usize, made: u32, budget: u3
     }
 }
 
+// Over the rows before that of the next reached node, from which no edge is crossed; over the row at x where it is that one.
+fn over_unreached(weights: &[usize], nodes: &mut [u8], x: usize, made: u32, budget: u32) -> Step
+    requires { ⌜ Small (now weights) (length (now nodes)) ⌝ }
+    requires { ⌜ Begins (length (now nodes)) (now weights) x (length (now weights) - 1) ⌝ }
+    requires { ⌜ made ≤ budget ⌝ }
+    ensures { λ r. ⌜ Onward (now (weights .entry)) x made budget (now (nodes .entry)) (now (nodes .exit)) (r .ok) (r .made) (r .next) ⌝ }
+{
+    let k = all_but_one(weights.len());
+    let l = block_length(&weights[..k], nodes.len());
+    let f = first_reached(&nodes[x..]);
+    if f < l {
+        return over_row(weights, nodes, x, made, budget);
+    }
+    Step {
+        ok: true,
+        made,
+        next: x + f / l * l,
+    }
+}
+
 // Over the largest block at x, whose first node is reached.
 fn over_block(weights: &[usize], nodes: &mut [u8], x: usize, made: u32, budget: u32) -> Step
     requires { ⌜ Small (now weights) (length (now nodes)) ⌝ }
@@ -261,7 +281,7 @@ fn step_on(weights: &[usize], nodes: &mut [u8], x: usize, made: u32, budget: u32
     ensures { λ r. ⌜ Onward (now (weights .entry)) x made budget (now (nodes .entry)) (now (nodes .exit)) (r .ok) (r .made) (r .next) ⌝ }
 {
     if nodes[x] == 0 {
-        return over_row(weights, nodes, x, made, budget);
+        return over_unreached(weights, nodes, x, made, budget);
     }
     over_block(weights, nodes, x, made, budget)
 }

@@ -5,14 +5,14 @@ use Rattle.walk.proofs.step_on.Tie as tie
 slice-read-if1 : tie.Need-slice-read-if1
 slice-read-if1 c = search needs
 
-over-row-requires : tie.Need-over-row-requires
-over-row-requires c κs = c .before .before .before .before .before .pre
+over-unreached-requires : tie.Need-over-unreached-requires
+over-unreached-requires c κs = c .before .before .before .before .before .pre
 
 same-length : tie.Need-same-length
-same-length c = c .before .before .over-row .kept .1 .0
+same-length c = c .before .before .over-unreached .kept .1 .0
 
 returns : tie.Need-returns
-returns c = c .before .before .over-row .ensures
+returns c = c .before .before .over-unreached .ensures
 
 over-block-requires : tie.Need-over-block-requires
 over-block-requires c κs = let s = c .before .before .before .before .before in (s .pre .0, (s .pre .1 .0, (c .before .if1 .left, s .pre .1 .1)))
@@ -28,7 +28,7 @@ step-on-spec =
     tie.close
     (tie.spec
     slice-read-if1
-    over-row-requires
+    over-unreached-requires
     same-length
     returns
     over-block-requires
