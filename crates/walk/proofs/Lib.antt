@@ -2,3 +2,4 @@ pub mod Crossing
 pub mod Parts
 pub mod Inside
 pub mod Onward
+pub mod Reached

@@ -1,8 +1,9 @@
 // The walk of the lattice engine (000, 6.1), on weights and node bytes: upward over the edges that leave reached nodes.
 ghost use mathlib.Core.Path.{_≡_};
-ghost use Prim.Native.Nat.{_+_, _-_, _≤_};
+ghost use Prim.Native.Nat.{ℕ, _+_, _-_, _<_, _≤_};
 ghost use mathlib.Core.List.{map};
-ghost use lib.ListN.{length, getD};
+ghost use lib.ListN.{length, getD, drop};
+ghost use mathlib.Core.Bool.{false};
 ghost use Rattle.nodes.specs.Steps.{blockLength, blockBy, insideBy, firstReached, rowEdges, BlockAt, enteredByte, trail};
 ghost use Rattle.walk.specs.Progress.{Crosses, CrossesTo, Small, Begins, wholeEdges, Onward};
 
@@ -100,11 +101,39 @@ fn cross_parts(
     Progress { ok: true, made: n }
 }
 
+// Whether one of the sixteen nodes from f on is reached: the compiler looks at all of them at once.
+fn some_reached(nodes: &[u8], f: usize) -> bool
+    requires { ⌜ f + 16 ≤ length (now nodes) ⌝ }
+    ensures { λ r. ⌜ (r ≡ false → ((i : ℕ) → i < 16 → getD (now (nodes .entry)) (f + i) 0 ≡ 0)) ⌝ }
+{
+    let mut some = false;
+    let mut i = 0;
+    while i < 16 {
+        some = some | (nodes[f + i] != 0);
+        i += 1;
+    }
+    some
+}
+
+// A place before which no node is reached, by sixteens.
+fn unreached_front(nodes: &[u8]) -> usize
+    ensures { λ f. ⌜ (f ≤ length (now (nodes .entry))) × (f + firstReached (drop f (now (nodes .entry))) ≡ firstReached (now (nodes .entry))) ⌝ }
+{
+    let mut f: usize = 0;
+    while 16 <= nodes.len() - f {
+        if some_reached(nodes, f) {
+            return f;
+        }
+        f += 16;
+    }
+    f
+}
+
 // The place of the first reached node; their number where there is none.
 fn first_reached(nodes: &[u8]) -> usize
     ensures { λ f. ⌜ f ≡ firstReached (now (nodes .entry)) ⌝ }
 {
-    let mut f = 0;
+    let mut f = unreached_front(nodes);
     while f < nodes.len() {
         if nodes[f] != 0 {
             return f;
