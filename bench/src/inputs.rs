@@ -99,6 +99,24 @@ fn windows() -> Vec<Case> {
     cases
 }
 
+pub const WIDEST: u32 = 1_024;
+
+fn equal_sums() -> Vec<Vec<i32>> {
+    rows_of(ROWS, &mut Random::new(SEED), &[99; 8], anticorrelated)
+}
+
+/// No run betters another: the most compares that there can be.
+pub fn all_best() -> Vec<u8> {
+    stream(&mut Random::new(SEED), &[99; 8], equal_sums())
+}
+
+/// The same runs, but for the first, which betters all others: one compare each.
+pub fn one_best() -> Vec<u8> {
+    let mut rows = equal_sums();
+    rows[0] = vec![0; 8];
+    stream(&mut Random::new(SEED), &[99; 8], rows)
+}
+
 /// 32,768 nodes each.
 const LATTICES: [&[i32]; 3] = [&[127, 255], &[7; 5], &[1, 3, 3, 3, 3, 3, 3, 3]];
 

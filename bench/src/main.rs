@@ -1,10 +1,11 @@
 //! Our flat calls beside peers. bench/run builds and calls this; docs/BENCHMARKS.md explains what is printed.
 //!
-//! bench time OUT [NAME=COMMAND..]  checks every peer, prints the table of ratios, writes OUT/levels and OUT/rows.svg
+//! bench time OUT [NAME=COMMAND..]  checks every peer, prints the table of ratios and what a compare costs, writes OUT/levels and OUT/rows.svg
 //! bench count                      one call each, for callgrind
 //! bench counts OUT                 prints the table of instruction counts from callgrind's dumps
 
 mod check;
+mod compare;
 mod counts;
 mod inputs;
 mod outside;
@@ -32,5 +33,6 @@ fn time(out: &Path, others: &[&str]) {
     check::all(&cases);
     let mut others = outside::start_all(others);
     timing::print(&cases, &mut others, out);
+    compare::print();
     picture::write(&scaling::measure(), &out.join("rows.svg"));
 }
