@@ -25,8 +25,9 @@ program:
 	@rt check shortlist >target/program.log 2>&1 || { cat target/program.log; exit 1; }
 
 # Our calls beside careful C and Rust ones: tables, and target/bench/rows.svg. docs/BENCHMARKS.md explains them.
+# make bench BEFORE=path/to/libshortlist.a adds a column: ours divided by that archive. ONLY=text takes a few inputs.
 bench: archive
-	@bash bench/run
+	@BEFORE='$(BEFORE)' ONLY='$(ONLY)' bash bench/run
 
 # Library, header, pkg-config file, program and manual page: make install PREFIX=/usr/local DESTDIR=
 install: archive program

@@ -2,7 +2,7 @@
 //! damaged, and counts as document 01 does.
 
 use crate::inputs::{Case, BUDGET};
-use crate::peers::{compares, PEERS};
+use crate::peers::{compares, BEFORE, PEERS};
 use flat_calls::calls::Call;
 use flat_calls::model::{flat, machine};
 use flat_calls::random::{Random, SEED};
@@ -24,8 +24,12 @@ fn is_asked(peer: usize, call: Call, ours: i32) -> bool {
 }
 
 fn same_answers(what: &str, call: Call, stream: &[u8], marks_len: usize) -> usize {
+    answers_of(|peer| peer != BEFORE, what, call, stream, marks_len)
+}
+
+fn answers_of(who: fn(&str) -> bool, what: &str, call: Call, stream: &[u8], marks_len: usize) -> usize {
     let ours = answer(0, call, stream, marks_len).expect("both engines");
-    let asked: Vec<usize> = (1..PEERS.len()).filter(|peer| is_asked(*peer, call, ours.0)).collect();
+    let asked: Vec<usize> = (1..PEERS.len()).filter(|peer| who(PEERS[*peer].name) && is_asked(*peer, call, ours.0)).collect();
     for peer in &asked {
         let theirs = answer(*peer, call, stream, marks_len).expect("asked");
         assert!(theirs == ours, "{}: another answer than ours on {what}, {call:?}: {} and {}", PEERS[*peer].name, theirs.0, ours.0);
@@ -88,7 +92,7 @@ fn full_streams() -> usize {
 pub fn all(cases: &[Case]) {
     let mut made = full_streams();
     for case in cases {
-        made += same_answers(&case.name, case.call, &case.stream, 1_024);
+        made += answers_of(|_| true, &case.name, case.call, &case.stream, 1_024);
         let w = if let Call::Window { w } = case.call { w } else { 64 };
         made += same_counts(&case.name, &case.stream, w);
     }

@@ -33,6 +33,9 @@ fn time(out: &Path, others: &[&str]) {
     check::all(&cases);
     let mut others = outside::start_all(others);
     timing::print(&cases, &mut others, out);
+    if std::env::var("ONLY").is_ok() {
+        return;
+    }
     compare::print();
     picture::write(&scaling::measure(), &out.join("rows.svg"));
 }

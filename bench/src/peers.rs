@@ -1,4 +1,5 @@
-//! Everything that is timed in this process: the archive, the C peer, the Rust peer with and without bounds checks, the nested loop.
+//! Everything that is timed in this process: the archive, the one from before a change where there is one, the C peer, the Rust peer with
+//! and without bounds checks, the nested loop.
 
 use flat_calls::calls::{raw, Call};
 
@@ -9,6 +10,11 @@ mod c {
         pub fn peer_window(stream: *const u8, stream_len: usize, marks: *mut u8, marks_len: usize, w: u32) -> i32;
         pub fn peer_nested(stream: *const u8, stream_len: usize, marks: *mut u8, marks_len: usize, w: u32) -> i32;
         pub fn peer_window_compares(stream: *const u8, stream_len: usize, w: u32) -> u32;
+    }
+    #[cfg(before)]
+    extern "C" {
+        pub fn before_lattice(stream: *const u8, stream_len: usize, marks: *mut u8, marks_len: usize, budget: u32) -> i32;
+        pub fn before_window(stream: *const u8, stream_len: usize, marks: *mut u8, marks_len: usize, w: u32) -> i32;
     }
 }
 
@@ -35,15 +41,28 @@ impl Peer {
     }
 }
 
+/// The archive from before a change. What the change brings it may refuse, so it is held against ours on the timed inputs alone.
+pub const BEFORE: &str = "before";
+
 /// The first is what the others are held against.
-pub const PEERS: [Peer; 6] = [
+pub const PEERS: &[Peer] = &[
     Peer { name: "ours", run: |call, stream, marks| Some(raw(call, stream, marks)) },
+    #[cfg(before)]
+    Peer { name: BEFORE, run: before },
     Peer { name: "C", run: in_c },
     Peer { name: "C by nodes", run: in_c_by_nodes },
     Peer { name: "Rust", run: in_rust::<true> },
     Peer { name: "Rust unchecked", run: in_rust::<false> },
     Peer { name: "nested loop", run: nested },
 ];
+
+#[cfg(before)]
+fn before(call: Call, stream: &[u8], marks: &mut [u8]) -> Option<i32> {
+    Some(match call {
+        Call::Lattice { budget } => call_c(c::before_lattice, stream, marks, budget),
+        Call::Window { w } => call_c(c::before_window, stream, marks, w),
+    })
+}
 
 fn in_c(call: Call, stream: &[u8], marks: &mut [u8]) -> Option<i32> {
     Some(match call {

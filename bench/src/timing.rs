@@ -50,7 +50,7 @@ type Once<'a> = Box<dyn FnMut(u32) -> f64 + 'a>;
 /// Our engine, then the peers that have it, then those of other processes.
 fn timers<'a>(case: &'a Case, others: &'a mut [Outside], out: &Path) -> Vec<Option<Once<'a>>> {
     let mut timers: Vec<Option<Once<'a>>> = vec![];
-    for peer in &PEERS {
+    for peer in PEERS {
         let timer: Once = Box::new(|calls| once(peer, case.call, &case.stream, calls));
         timers.push(peer.answers(case.call).then_some(timer));
     }
