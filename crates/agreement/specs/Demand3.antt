@@ -10,13 +10,13 @@ use borrow.Author.Tests.{le-ltb, eq-eqb}
 use Rattle.laws.specs.Checks.{_gives_, _then_}
 use Rattle.laws.specs.Laws.Outcome.{accepted-number}
 use Rattle.runs.specs.Log.{rowCount}
-use Rattle.preference.specs.Parts.{maxLevels}
 use Rattle.preference.specs.declared.PreferenceList.{PreferenceList}
-use Rattle.pareto.specs.Best.{competing, vectors, bestMatches, isBest}
+use Rattle.pareto.specs.Best.{competing, bestMatches, isBest}
 use Rattle.pareto.specs.Checked.{marksNumber, checkedNumber}
 use Rattle.pareto.specs.Laws.Best.{BestMatch, best-match, match-best}
 use Rattle.nodes.specs.Lattice.{nodeCount, crossings, bound}
 use Rattle.nodes.specs.Laws.Bound.{crossings-bound}
+use Rattle.lattice.specs.Walked.{latticeTops, latticeRows}
 use Rattle.lattice.specs.Engine.{latticeNumber, Ran}
 use Rattle.lattice.specs.declared.LatticeAnswer.the-variants.{Crossed}
 use Rattle.bnl.specs.Engine.{windowNumber, machineOf, Answered}
@@ -61,10 +61,10 @@ module _ (l : PreferenceList) (log : List ℤ) where
   -- "Each accepted call of the lattice engine returns the number of crossings that it made: it equals the number of edges that leave
   -- reached nodes, at most the sum over the wishes of nodes × M/(M+1), M being the wish's greatest level."
   pub lattice-count : (marks marks′ nodes nodes′ : List ℕ) (budget count : ℕ) → Ran l log marks nodes budget (Crossed count) marks′ nodes′
-      → (count ≡ crossings (maxLevels l) (vectors l log)) × (count ≤ bound (maxLevels l))
+      → (count ≡ crossings (latticeTops l) (latticeRows l log)) × (count ≤ bound (latticeTops l))
   lattice-count marks marks′ nodes nodes′ budget count a =
       let e = crossed-outcome l log marks marks′ nodes nodes′ budget count a in
-      (e, rw e (crossings-bound (maxLevels l) (vectors l log)))
+      (e, rw e (crossings-bound (latticeTops l) (latticeRows l log)))
 
 -- "An accepted flat call writes the same marks for the runs and wishes of its stream" (same-marks, by-flat-lattice and by-flat-window), "and
 -- returns 01's number of shortlisted rows in place of the count."
@@ -78,11 +78,11 @@ flat-result k s marks marks′ best a =
 -- ---- the calls that are accepted: "at most 32,768 lattice nodes, .. every window from 1 to 1,024 and every budget of at least the crossings"
 
 module _ (l : PreferenceList) (log : List ℤ) (marks : ℕ) where
-  pub lattice-accepts : (nodes budget : ℕ) → checkedNumber l log (marksNumber log marks) ≡ 0 → nodeCount (maxLevels l) ≤ 32768 → nodeCount (maxLevels l) ≤ nodes
-      → crossings (maxLevels l) (vectors l log) ≤ budget → latticeNumber l log marks nodes budget ≡ 0
+  pub lattice-accepts : (nodes budget : ℕ) → checkedNumber l log (marksNumber log marks) ≡ 0 → nodeCount (latticeTops l) ≤ 32768 → nodeCount (latticeTops l) ≤ nodes
+      → crossings (latticeTops l) (latticeRows l log) ≤ budget → latticeNumber l log marks nodes budget ≡ 0
   unfolding latticeNumber _gives_ _then_
   lattice-accepts nodes budget z few fit enough =
-      rw (z, le-ltb 32768 (nodeCount (maxLevels l)) few, le-ltb nodes (nodeCount (maxLevels l)) fit, le-ltb budget (crossings (maxLevels l) (vectors l log)) enough)
+      rw (z, le-ltb 32768 (nodeCount (latticeTops l)) few, le-ltb nodes (nodeCount (latticeTops l)) fit, le-ltb budget (crossings (latticeTops l) (latticeRows l log)) enough)
 
   -- the same checks of the list, the log and the marks, then the window's size and the work list's
   pub window-accepts : (work w : ℕ) → checkedNumber l log (marksNumber log marks) ≡ 0 → 1 ≤ w → w ≤ 1024 → 2 * (rowCount log + w) ≤ work → windowNumber l log marks work w ≡ 0

@@ -14,9 +14,10 @@ use Rattle.preference.specs.Parts.{levels, maxLevels, rowNumber}
 use Rattle.laws.specs.Lists.{joined, anyOf}
 use Rattle.runs.specs.Log.{logNumber}
 use Rattle.pareto.specs.Dominance.{noneAbove, someBelow, dominates}
-use Rattle.pareto.specs.Best.{competes, competing, vectorAt, vectors, rowDominates, isBest, marksOf}
+use Rattle.pareto.specs.Best.{competes, competing, vectorAt, rowDominates, isBest, marksOf}
 use Rattle.pareto.specs.Checked.{rowsNumber, checkedNumber}
 use Rattle.nodes.specs.Lattice.{nodeCount, nodeId, levelsOf, held, dominatedNode, reached, edgesFrom, edges, crossedAt, crossings, boundFrom, bound}
+use Rattle.lattice.specs.Walked.{latticeTops, latticeRow, latticeRows}
 use Rattle.lattice.specs.Engine.{latticeNumber}
 use Rattle.machine.specs.Machine as machines
 use Rattle.bnl.specs.Engine.{sizesNumber, windowNumber, machineOf}
@@ -35,5 +36,5 @@ each [] e = tt
 each (c ∷ cs) e = (cc, each cs (cc))
 
 pub marked-cases : Each cases
-unfolding answers expected answer outcome _gives_ _then_ firstAt anyBelow firstNumber gap ceilDiv distance inside maxLevel sound constructorNumber layerNumber columnNumber preferenceNumber namedNumber listNumber layerOf levelAt maxAt valueNumber levelNumber levels maxLevels rowNumber joined anyOf logNumber noneAbove someBelow dominates competes competing vectorAt vectors rowDominates isBest marksOf rowsNumber checkedNumber nodeCount nodeId levelsOf held dominatedNode reached edgesFrom edges crossedAt crossings boundFrom bound latticeNumber sizesNumber windowNumber machineOf machines.keep machines.marked machines.older machines.younger machines.release machines.dominated machines.compares machines.tick machines.spares machines.remove machines.enter machines.setAside machines.renew machines.finish machines.isEmpty machines.place machines.judge machines.read machines.pass machines.passes machines.start machines.machine
+unfolding answers expected answer outcome _gives_ _then_ firstAt anyBelow firstNumber gap ceilDiv distance inside maxLevel sound constructorNumber layerNumber columnNumber preferenceNumber namedNumber listNumber layerOf levelAt maxAt valueNumber levelNumber levels maxLevels rowNumber joined anyOf logNumber noneAbove someBelow dominates competes competing vectorAt rowDominates isBest marksOf rowsNumber checkedNumber nodeCount nodeId levelsOf held dominatedNode reached edgesFrom edges crossedAt crossings boundFrom bound latticeTops latticeRow latticeRows latticeNumber sizesNumber windowNumber machineOf machines.keep machines.marked machines.older machines.younger machines.release machines.dominated machines.compares machines.tick machines.spares machines.remove machines.enter machines.setAside machines.renew machines.finish machines.isEmpty machines.place machines.judge machines.read machines.pass machines.passes machines.start machines.machine
 marked-cases = each cases refl

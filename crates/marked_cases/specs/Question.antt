@@ -5,9 +5,9 @@ use mathlib.Core.Path.{_≡_}
 use lib.IntN.{ℤ}
 use Rattle.laws.specs.Outcome.{Outcome, accepted, refused, outcome}
 use Rattle.preference.specs.Level.{levelNumber, levelAt, maxAt}
-use Rattle.preference.specs.Parts.{maxLevels}
-use Rattle.pareto.specs.Best.{vectors, marksOf}
+use Rattle.pareto.specs.Best.{marksOf}
 use Rattle.nodes.specs.Lattice.{nodeCount, crossings, bound}
+use Rattle.lattice.specs.Walked.{latticeTops, latticeRows}
 use Rattle.lattice.specs.Engine.{latticeNumber}
 use Rattle.bnl.specs.Engine.{windowNumber, machineOf}
 use Rattle.preference.specs.declared.PreferenceList.{PreferenceList}
@@ -35,9 +35,9 @@ unfoldable pub answer : Question → Answer
 answer (levelAsked l i v) = ends (outcome (levelNumber l i v) (levelAt l i v))
 answer (maxAsked l i) = figure (maxAt l i)
 answer (marksAsked l log) = figures (marksOf l log)
-answer (latticeAsked l log) = figures (nodeCount (maxLevels l) ∷ crossings (maxLevels l) (vectors l log) ∷ bound (maxLevels l) ∷ [])
+answer (latticeAsked l log) = figures (nodeCount (latticeTops l) ∷ crossings (latticeTops l) (latticeRows l log) ∷ bound (latticeTops l) ∷ [])
 answer (windowCalled l log marks work w) = ends (outcome (windowNumber l log marks work w) (machineOf l log w .count))
-answer (latticeCalled l log marks nodes budget) = ends (outcome (latticeNumber l log marks nodes budget) (crossings (maxLevels l) (vectors l log)))
+answer (latticeCalled l log marks nodes budget) = ends (outcome (latticeNumber l log marks nodes budget) (crossings (latticeTops l) (latticeRows l log)))
 
 pub record Case : Type 0 where
   pub asks : Question

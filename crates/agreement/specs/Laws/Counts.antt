@@ -12,12 +12,12 @@ use Rattle.laws.specs.Laws.Outcome.{accepted-value}
 use Rattle.laws.specs.Checks.{_gives_, _then_}
 use Rattle.laws.specs.Laws.Bools.{false-true}
 use Rattle.runs.specs.Log.{rowCount}
-use Rattle.preference.specs.Parts.{maxLevels}
 use Rattle.preference.specs.declared.PreferenceList.{PreferenceList}
-use Rattle.pareto.specs.Best.{competing, vectors, rowDominates}
+use Rattle.pareto.specs.Best.{competing, rowDominates}
 use Rattle.pareto.specs.Checked.{marksNumber}
 use Rattle.nodes.specs.Lattice.{crossings}
 use Rattle.machine.specs.Laws.Ends.{count-bound-half}
+use Rattle.lattice.specs.Walked.{latticeTops, latticeRows}
 use Rattle.lattice.specs.Engine.{Ran}
 use Rattle.lattice.specs.declared.LatticeAnswer.the-variants.{Crossed}
 use Rattle.bnl.specs.Engine.{sizesNumber, machineOf, Answered}
@@ -31,7 +31,7 @@ one-best true = (λ e. refl, λ e. refl, omega arith)
 one-best false = (λ e. absurd (omega arith), λ e. false-true e, omega arith)
 
 module _ (l : PreferenceList) (log : List ℤ) where
-  pub crossed-outcome : (marks marks′ nodes nodes′ : List ℕ) (budget count : ℕ) → Ran l log marks nodes budget (Crossed count) marks′ nodes′ → count ≡ crossings (maxLevels l) (vectors l log)
+  pub crossed-outcome : (marks marks′ nodes nodes′ : List ℕ) (budget count : ℕ) → Ran l log marks nodes budget (Crossed count) marks′ nodes′ → count ≡ crossings (latticeTops l) (latticeRows l log)
   crossed-outcome marks marks′ nodes nodes′ budget count a = accepted-value _ _ count (a .ends)
 
   pub compared-outcome : (marks marks′ work work′ : List ℕ) (w count : ℕ) → Answered l log w marks marks′ work work′ (Compared count) → count ≡ machineOf l log w .count

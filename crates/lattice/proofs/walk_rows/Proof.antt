@@ -7,14 +7,14 @@ use borrow.Author.Needs.{needs}
 use lib.ListN.{length, take, drop, replicate, length-append, length-replicate}
 use lib.Seq.{length-take-le, take-at}
 use Rattle.runs.specs.Laws.Log.{accepted}
-use Rattle.preference.specs.Parts.{maxLevels}
-use Rattle.preference.specs.Laws.Parts.{parts-few}
 use Rattle.preference.specs.declared.PreferenceList.{PreferenceList}
 use Rattle.nodes.specs.Lattice.{nodeCount}
 use Rattle.nodes.specs.Laws.Steps.{weights-length}
 use Rattle.walk.specs.Progress.{Small}
 use Rattle.settle.specs.Settled.{Settles}
+use Rattle.lattice.specs.Walked.{latticeTops}
 use Rattle.lattice.specs.Numbers.{Weighed}
+use Rattle.lattice.specs.Laws.Walked.{tops-few}
 use Rattle.lattice.proofs.walk_rows.Statement.{statement}
 use Rattle.lattice.proofs.walk_rows.Tie as tie
 
@@ -49,11 +49,11 @@ told : (w w′ x x′ : List ℕ) (n n′ budget : ℕ) (marks : List ℕ) (ok :
 told w w′ x x′ n n′ budget marks ok made marks′ nodes′ p q r s = rw (p, q, r) at s
 
 -- the lattice is one that the walk takes
-small : (l : PreferenceList) (weights : List ℕ) (n : ℕ) → Weighed l weights → n ≡ nodeCount (maxLevels l) → Small weights n
+small : (l : PreferenceList) (weights : List ℕ) (n : ℕ) → Weighed l weights → n ≡ nodeCount (latticeTops l) → Small weights n
 small l weights n w e =
     record {
-      lattice = record { tops = maxLevels l; weights-are = w .weights-are; count-is = e };
-      parts = rw (w .weights-are, weights-length (maxLevels l)) (parts-few l);
+      lattice = record { tops = latticeTops l; weights-are = w .weights-are; count-is = e };
+      parts = rw (w .weights-are, weights-length (latticeTops l)) (tops-few l);
       nodes = rw e (w .few);
     }
 

@@ -18,9 +18,10 @@ use Rattle.word.specs.Word.{wordAt, intAt, wordBytes}
 use Rattle.format.specs.Kinds.{kinds, kindOf}
 use Rattle.format.specs.Read.{constructorOf, intsAt, endsLayered, outOfPlace, figuresNumber, recordNumber, withRecord, takeRecord, step, steps, records, endNumber, finish, readOf, valuesFrom, valuesOf}
 use Rattle.pareto.specs.Dominance.{noneAbove, someBelow, dominates}
-use Rattle.pareto.specs.Best.{competes, competing, vectorAt, vectors, rowDominates, isBest, bestMatches}
+use Rattle.pareto.specs.Best.{competes, competing, vectorAt, rowDominates, isBest, bestMatches}
 use Rattle.pareto.specs.Checked.{rowsNumber, checkedNumber}
 use Rattle.nodes.specs.Lattice.{nodeCount, nodeId, levelsOf, held, dominatedNode, reached, edgesFrom, edges, crossedAt, crossings}
+use Rattle.lattice.specs.Walked.{latticeTops, latticeRow, latticeRows}
 use Rattle.lattice.specs.Engine.{latticeNumber}
 use Rattle.selection.specs.Selected.{eitherNumber}
 use Rattle.selection.specs.Stream.{afterReading}
@@ -58,5 +59,5 @@ abbrev refusedBy : ℕ → List ℕ
 refusedBy figure = 114 ∷ 101 ∷ 102 ∷ 117 ∷ 115 ∷ 101 ∷ 100 ∷ 32 ∷ figure ∷ 10 ∷ []
 
 pub examples : (reportOf (harbourWith 1000) ≡ printed) × (reportOf (harbourWith 1001) ≡ refusedBy 56) × (reportOf [] ≡ refusedBy 49)
-unfolding reportOf textOf linesText reportNumber refusedText headText fieldsText lineText decimalBy decimal sign signed afterReading eitherNumber latticeNumber checkedNumber rowsNumber logNumber nodeCount nodeId levelsOf held dominatedNode reached edgesFrom edges crossedAt crossings noneAbove someBelow dominates competes competing vectorAt vectors rowDominates isBest bestMatches readOf valuesFrom valuesOf finish endNumber records steps step takeRecord withRecord recordNumber intsAt wordAt intAt wordBytes kindOf kinds endsLayered outOfPlace figuresNumber constructorOf columnNumber preferenceNumber namedNumber listNumber layerOf levelAt maxAt valueNumber levelNumber levels maxLevels rowNumber distance inside maxLevel sound constructorNumber layerNumber gap ceilDiv joined anyOf firstAt anyBelow firstNumber _gives_ _then_
+unfolding reportOf textOf linesText reportNumber refusedText headText fieldsText lineText decimalBy decimal sign signed afterReading eitherNumber latticeTops latticeRow latticeRows latticeNumber checkedNumber rowsNumber logNumber nodeCount nodeId levelsOf held dominatedNode reached edgesFrom edges crossedAt crossings noneAbove someBelow dominates competes competing vectorAt rowDominates isBest bestMatches readOf valuesFrom valuesOf finish endNumber records steps step takeRecord withRecord recordNumber intsAt wordAt intAt wordBytes kindOf kinds endsLayered outOfPlace figuresNumber constructorOf columnNumber preferenceNumber namedNumber listNumber layerOf levelAt maxAt valueNumber levelNumber levels maxLevels rowNumber distance inside maxLevel sound constructorNumber layerNumber gap ceilDiv joined anyOf firstAt anyBelow firstNumber _gives_ _then_
 examples = (refl, refl, refl)

@@ -1,0 +1,27 @@
+-- The lattice that the engine walks has all parts of the level vectors. What goes by that cites one of the first three laws.
+use mathlib.Core.Path.{_≡_, refl}
+use Prim.Native.Nat.{ℕ, _≤_}
+use mathlib.Core.List.{List}
+use lib.IntN.{ℤ}
+use lib.ListN.{length}
+use Rattle.preference.specs.Parts.{maxLevels}
+use Rattle.preference.specs.Laws.Parts.{parts-few}
+use Rattle.preference.specs.declared.PreferenceList.{PreferenceList}
+use Rattle.pareto.specs.Best.{vectorAt, vectors}
+use Rattle.lattice.specs.Walked.{latticeTops, latticeRow, latticeRows}
+
+pub tops-are : (l : PreferenceList) → latticeTops l ≡ maxLevels l
+unfolding latticeTops
+tops-are l = refl
+
+module _ (l : PreferenceList) (log : List ℤ) where
+  pub row-is : (r : ℕ) → latticeRow l log r ≡ vectorAt l log r
+  unfolding latticeRow
+  row-is r = refl
+
+  pub rows-are : latticeRows l log ≡ vectors l log
+  unfolding latticeRows latticeRow vectors
+  rows-are = refl
+
+pub tops-few : (l : PreferenceList) → length (latticeTops l) ≤ 8
+tops-few l = rw (tops-are l) (parts-few l)
