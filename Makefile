@@ -5,7 +5,8 @@ PREFIX ?= /usr/local
 DESTDIR ?=
 VERSION = 0.1.0
 
-# Proves and builds what is needed, then runs the program on the Harbour log.
+# Proves and builds what is needed, then runs the program on the Harbour log. What is proved is told on standard error as it goes; standard
+# output is the program's.
 run: program
 	@target/bin/shortlist <examples/harbour.bin
 
@@ -16,13 +17,12 @@ test:
 # The library for C: target/archive holds libshortlist.a and shortlist.h.
 archive:
 	@mkdir -p target/archive
-	@rt staticlib console >target/archive.log 2>&1 || { cat target/archive.log; exit 1; }
+	@bash scripts/prove staticlib console
 	@cp target/staticlib/libconsole.a target/archive/libshortlist.a
 	@cp include/shortlist.h target/archive/shortlist.h
 
 program:
-	@mkdir -p target
-	@rt check shortlist >target/program.log 2>&1 || { cat target/program.log; exit 1; }
+	@bash scripts/prove check shortlist
 
 # Our calls beside careful C and Rust ones: tables, and target/bench/rows.svg. docs/BENCHMARKS.md explains them.
 # make bench BEFORE=path/to/libshortlist.a adds a column: ours divided by that archive. ONLY=text takes a few inputs.
