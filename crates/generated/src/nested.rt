@@ -1,5 +1,6 @@
 // Refusal 8 and marks, by comparing every row with every row. Level vectors lie in tables of eight parts each.
 ghost use Prim.Native.Nat.{_≤_};
+use crate::levels;
 use constructor::Constructor;
 use preference::PreferenceList;
 
@@ -96,26 +97,11 @@ pub fn strays(list: PreferenceList, log: &[i32]) -> bool {
 
 // ---- levels
 
-fn copy_row(log: &[i32], r: usize, row: &mut [i32]) {
-    let mut j: usize = 0;
-    while j < row.len() {
-        row[j] = value(log, r, j);
-        j += 1;
-    }
-}
-
-fn level_at(list: PreferenceList, log: &[i32], i: usize) -> u32 {
-    let mut row = [0i32; 8];
-    copy_row(log, i / 8, &mut row);
-    let level = preference::part_level(list, &row, i % 8);
-    (level % 4294967296) as u32
-}
-
 // The level vector of each row.
 pub fn fill_levels(list: PreferenceList, log: &[i32], table: &mut [u32]) {
     let mut i: usize = 0;
     while i < table.len() {
-        table[i] = level_at(list, log, i);
+        table[i] = levels::part(list, log, i / 8, i % 8);
         i += 1;
     }
 }

@@ -1,5 +1,6 @@
 // Node bytes and crossings, found by comparing every node with every row. Level vectors lie in tables of eight parts each.
 ghost use Prim.Native.Nat.{_<_, _≤_};
+use generated::levels;
 use generated::nested;
 use preference::PreferenceList;
 
@@ -15,15 +16,10 @@ fn put_byte(nodes: &mut [u8], at: usize, b: u8) {
     }
 }
 
-fn top_at(list: PreferenceList, k: usize) -> u32 {
-    let top = preference::part_max(list, k);
-    (top % 4294967296) as u32
-}
-
 pub fn fill_tops(list: PreferenceList, tops: &mut [u32]) {
     let mut k: usize = 0;
     while k < tops.len() {
-        tops[k] = top_at(list, k);
+        tops[k] = levels::top(list, k);
         k += 1;
     }
 }

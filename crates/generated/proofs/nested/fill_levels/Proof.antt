@@ -1,9 +1,11 @@
 use borrow.Author.Needs.{needs}
-use Prim.Native.Nat.{_-_}
+use native.Mathlib.Omega.{arith}
+use Prim.Native.Nat.{ℕ, _≤_, _<_, _-_, _+_, _*_}
 use mathlib.Core.Path.{_≡_}
 use lib.ListN.{length}
 use Rattle.generated.proofs.nested.fill_levels.Statement.{statement}
 use Rattle.generated.proofs.nested.fill_levels.Tie as tie
+use Rattle.generated.proofs.levels.part.Reads as part-reads
 
 abbrev Inv-loop : tie.InvT-loop
 Inv-loop list log table₀ i₀ table i = length table ≡ length table₀
@@ -14,8 +16,8 @@ abbrev μ-loop : tie.MeasureT-loop
 loop-holds : tie.Need-loop-holds Inv-loop μ-loop
 loop-holds c = search needs
 
-level-at-requires : tie.Need-level-at-requires Inv-loop μ-loop
-level-at-requires c κs = search needs
+part-requires : tie.Need-part-requires Inv-loop μ-loop
+part-requires c κs = search needs
 
 mul-table : tie.Need-mul-table Inv-loop μ-loop
 mul-table c = search needs
@@ -45,7 +47,7 @@ fill-levels-spec =
     Inv-loop
     μ-loop
     loop-holds
-    level-at-requires
+    part-requires
     mul-table
     slice-write-table
     add-i

@@ -14,8 +14,8 @@ abbrev μ-loop : tie.MeasureT-loop
 loop-holds : tie.Need-loop-holds Inv-loop μ-loop
 loop-holds c = search needs
 
-top-at-requires : tie.Need-top-at-requires Inv-loop μ-loop
-top-at-requires c κs = search needs
+top-requires : tie.Need-top-requires Inv-loop μ-loop
+top-requires c κs = search needs
 
 mul-tops : tie.Need-mul-tops Inv-loop μ-loop
 mul-tops c = search needs
@@ -45,7 +45,7 @@ fill-tops-spec =
     Inv-loop
     μ-loop
     loop-holds
-    top-at-requires
+    top-requires
     mul-tops
     slice-write-tops
     add-k
