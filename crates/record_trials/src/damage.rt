@@ -2,6 +2,7 @@
 ghost use Prim.Native.Nat.{_≤_};
 ghost use lib.ListN.{length};
 use crate::cases;
+use crate::places;
 use crate::streams;
 use format::WriteAnswer;
 use preference::PreferenceList;
@@ -53,7 +54,8 @@ fn comes_back(s: &[u8], list: PreferenceList, log: &[i32], rows: usize) -> bool 
     (length == s.len()) & written_back(s, &out)
 }
 
-// 1 where the reader differs from the model, touches what it must not, or what it read is not written back.
+// 1 where the reader differs from the model, touches what it must not, leaves a place past the counts that is not zero, or what it read is not
+// written back.
 fn differs(s: &[u8], room: usize) -> u64
     ensures { λ r. ⌜ r ≤ 1 ⌝ }
 {
@@ -66,7 +68,8 @@ fn differs(s: &[u8], room: usize) -> u64
         & (got.place == due.place)
         & (rows == due.rows as usize)
         & (list.count == due.wishes)
-        & (list.namings == due.names);
+        & (list.namings == due.names)
+        & places::zero_past(list);
     if !same {
         return 1;
     }

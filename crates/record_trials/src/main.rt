@@ -2,6 +2,7 @@
 // written apart. The file stdout holds what document 01 says of the streams that are made to be refused, and no difference elsewhere.
 mod cases;
 mod damage;
+mod places;
 mod streams;
 
 fn main() {

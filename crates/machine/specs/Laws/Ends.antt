@@ -224,7 +224,7 @@ square (suc m) = let e : suc m - 1 ≡ m = omega arith in rw e (omega arith)
 abbrev Enough : (ℕ → ℕ → Bool) → ℕ → ℕ → ℕ → Type 0
 Enough dom w fuel more = (xs : List Entry) (st : State) → ends dom w fuel xs st ≡ true → passes dom w (fuel + more) xs st ≡ passes dom w fuel xs st
 
-more-fuel : (dom : ℕ → ℕ → Bool) (w fuel more : ℕ) → Enough dom w fuel more
+pub more-fuel : (dom : ℕ → ℕ → Bool) (w fuel more : ℕ) → Enough dom w fuel more
 unfolding ends passes
 more-fuel dom w zero more xs st h = absurd (false≢true h)
 more-fuel dom w (suc fuel) more xs st h =
