@@ -9,12 +9,10 @@ use lib.Seq.{length-take-le, take-at}
 use Rattle.runs.specs.Laws.Log.{accepted}
 use Rattle.preference.specs.declared.PreferenceList.{PreferenceList}
 use Rattle.nodes.specs.Lattice.{nodeCount}
-use Rattle.nodes.specs.Laws.Steps.{weights-length}
 use Rattle.walk.specs.Progress.{Small}
 use Rattle.settle.specs.Settled.{Settles}
 use Rattle.lattice.specs.Walked.{latticeTops}
 use Rattle.lattice.specs.Numbers.{Weighed}
-use Rattle.lattice.specs.Laws.Walked.{tops-few}
 use Rattle.lattice.proofs.walk_rows.Statement.{statement}
 use Rattle.lattice.proofs.walk_rows.Tie as tie
 
@@ -53,7 +51,6 @@ small : (l : PreferenceList) (weights : List ℕ) (n : ℕ) → Weighed l weight
 small l weights n w e =
     record {
       lattice = record { tops = latticeTops l; weights-are = w .weights-are; count-is = e };
-      parts = rw (w .weights-are, weights-length (latticeTops l)) (tops-few l);
       nodes = rw e (w .few);
     }
 

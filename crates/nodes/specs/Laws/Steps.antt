@@ -3,13 +3,14 @@ use mathlib.Core.Path.{_≡_, refl, sym, ap, _∙_}
 use mathlib.Core.Bool.{Bool, true, false, cond, _||_}
 use mathlib.Core.List.{List, [], _∷_, _++_}
 use Prim.Native.Nat.{ℕ, zero, suc, _+_, _*_, _/_, _%_, _<_, _≤_}
-use native.Mathlib.Nat.{div-lt-iff-lt-mul, add-mul, one-mul, le-of-suc-le-suc, not-suc-le-zero, le-refl, le-trans, le-add-left}
+use native.Mathlib.Nat.{div-lt-iff-lt-mul, add-mul, one-mul, le-of-suc-le-suc, not-suc-le-zero, le-refl, le-trans, le-add-left, mod-lt}
 use native.Mathlib.Decide.{ℕ-discrete}
 use native.Mathlib.Omega.{arith}
-use lib.Dec.{ltb, eqb}
+use lib.Bits.{or-step, or-zero-r}
+use lib.Dec.{ltb, eqb, lit<}
 use lib.ListN.{length, getD, set, drop, replicate, length-set, length-replicate}
 use lib.Seq.{getD-set-same, getD-set-other}
-use borrow.Author.Tests.{lt-ltb, le-ltb, ltb-true, ltb-false, eq-eqb, ne-eqb}
+use borrow.Author.Tests.{lt-ltb, ltb-true, eq-eqb, ne-eqb}
 use Rattle.laws.specs.Lists.{anyOf}
 use Rattle.laws.specs.Laws.Bools.{both-ways}
 use Rattle.preference.specs.Laws.Parts.{Within}
@@ -40,7 +41,7 @@ unfolding edgesBy weightsOf edgesFrom nodeCount
 edges-by [] x r = refl
 edges-by (m ∷ ms) x r = rw (open-test m (nodeCount ms) r (nodes-some ms), edges-by ms x (r % nodeCount ms))
 
-nodes-grow : (m : ℕ) (ms : List ℕ) → nodeCount ms ≤ nodeCount (m ∷ ms)
+pub nodes-grow : (m : ℕ) (ms : List ℕ) → nodeCount ms ≤ nodeCount (m ∷ ms)
 unfolding nodeCount
 nodes-grow m ms = rw (add-mul m 1 (nodeCount ms), one-mul (nodeCount ms)) (le-add-left (nodeCount ms) (m * nodeCount ms))
 
@@ -70,18 +71,8 @@ edges-inside tops x h =
     all-among (λ y. y < nodeCount tops) (edgesFrom tops x x)
     (λ y t. let e = edge-raises tops x x y h t in let at : e .off ≡ y = omega (arith, e .place) in omega (arith, e .inside))
 
-module _ (weights : List ℕ) (count : ℕ) (l : Weights weights count) where
-  long : length weights ≡ length (l .tops)
-  long = rw (l .weights-are) (weights-length (l .tops))
-
-  pub weight-some : (i : ℕ) → i < length weights → zero < getD weights i 0
-  weight-some i h = rw (l .weights-are, weight-at (l .tops) i (rw long at h)) (nodes-some (drop (suc i) (l .tops)))
-
-  pub weight-small : (i : ℕ) → i < length weights → getD weights i 0 ≤ count
-  weight-small i h = rw (l .weights-are, l .count-is, weight-at (l .tops) i (rw long at h)) (drop-nodes (l .tops) (suc i))
-
-  pub targets-inside : (x : ℕ) → x < count → All (λ y. y < count) (edgesBy count weights x x)
-  targets-inside x h = rw (l .weights-are, l .count-is, edges-by (l .tops) x x) (edges-inside (l .tops) x (rw (l .count-is) at h))
+pub targets-inside : (weights : List ℕ) (count : ℕ) (l : Weights weights count) (x : ℕ) → x < count → All (λ y. y < count) (edgesBy count weights x x)
+targets-inside weights count l x h = rw (l .weights-are, l .count-is, edges-by (l .tops) x x) (edges-inside (l .tops) x (rw (l .count-is) at h))
 
 -- ---- updates
 
@@ -120,21 +111,16 @@ module _ (f : ℕ → ℕ) where
 pub opened-length : (n : ℕ) (numbers : List ℕ) → length (opened n numbers) ≡ n
 opened-length n numbers = length-updated heldByte numbers (replicate n 0) ∙ length-replicate n 0
 
-pub entered-once : (b : ℕ) → enteredByte (enteredByte b) ≡ enteredByte b
+-- the bit is set, and the others stay
+entered-is : (b : ℕ) → enteredByte b ≡ (b / 2 / 2 * 2 + 1) * 2 + b % 2
 unfolding enteredByte
-entered-once b = go (ltb b 2) refl
-  where
-    go : (t : Bool) → ltb b 2 ≡ t → cond (ltb (cond t (b + 2) b) 2) (cond t (b + 2) b + 2) (cond t (b + 2) b) ≡ cond t (b + 2) b
-    go true e = rw (le-ltb (b + 2) 2 (omega arith))
-    go false e = rw e
+entered-is b = or-step b 2 ∙ rw (or-step (b / 2) 1, or-zero-r (b / 2 / 2)) (omega (arith, mod-lt (b / 2) {m = 2} (lit< tt)))
+
+pub entered-once : (b : ℕ) → enteredByte (enteredByte b) ≡ enteredByte b
+entered-once b = rw (entered-is b, entered-is ((b / 2 / 2 * 2 + 1) * 2 + b % 2)) (omega arith)
 
 entered-some : (b : ℕ) → enteredByte b ≡ 0 → ⊥
-unfolding enteredByte
-entered-some b = go (ltb b 2) refl
-  where
-    go : (t : Bool) → ltb b 2 ≡ t → cond t (b + 2) b ≡ 0 → ⊥
-    go true e z = omega arith
-    go false e z = let h = ltb-false b 2 e in omega arith
+entered-some b e = omega (arith, entered-is b)
 
 -- a node that an edge leads to is reached
 pub entered-there : (ts b : List ℕ) (y : ℕ) → y < length b → among y ts ≡ true → getD (updated enteredByte ts b) y 0 ≡ 0 → ⊥

@@ -1,19 +1,17 @@
--- Numbers that stand side by side, and updates at them.
-use mathlib.Core.Path.{_≡_, refl, ap, _∙_}
-use mathlib.Core.Logic.{⊎-elim}
-use mathlib.Core.Bool.{true}
+-- Edges of a part of the nodes: numbers that stand side by side, numbers shifted, and updates at them.
+use mathlib.Core.Path.{_≡_, refl, sym, ap, _∙_}
 use mathlib.Core.List.{List, [], _∷_, _++_, map}
 use Prim.Native.Nat.{ℕ, zero, suc, _+_, _<_, _≤_}
-use native.Mathlib.Nat.{add-suc, suc-add, add-zero, eq-or-lt-of-le}
+use native.Mathlib.Nat.{add-suc, suc-add, add-zero, zero-add}
 use native.Mathlib.Omega.{arith}
 use lib.Dec.{eqb}
-use lib.ListN.{length, getD, set, take, drop}
-use lib.Seq.{drop-nil}
+use lib.ListN.{length, getD, set, take, drop, length-set, length-drop, List·getD-append, take-append-drop}
+use lib.Seq.{set-append-left, length-take-le}
 use borrow.Author.Tests.{eqb-true, eq-eqb}
 use Rattle.laws.specs.Lists.{anyOf}
-use Rattle.laws.specs.Laws.Bools.{false-true, either, or-right}
-use Rattle.nodes.specs.Steps.{stretch, updated}
-use Rattle.nodes.specs.Laws.Some.{among}
+use Rattle.laws.specs.Laws.Bools.{both-ways}
+use Rattle.nodes.specs.Steps.{stretch, shifted, updated}
+use Rattle.nodes.specs.Laws.Some.{All, among}
 
 pub stretch-length : (a d : ℕ) → length (stretch a d) ≡ d
 unfolding stretch
@@ -25,42 +23,63 @@ unfolding stretch
 stretch-more a zero = rw (add-zero a)
 stretch-more a (suc d) = ap (λ (l : List ℕ). a ∷ l) (stretch-more (suc a) d ∙ rw (suc-add a d, add-suc a d))
 
-pub stretch-has : (a d y : ℕ) → a ≤ y → y < a + d → among y (stretch a d) ≡ true
-unfolding stretch among anyOf
-stretch-has a zero y h k = let w : ⊥ = omega arith in absurd w
-stretch-has a (suc d) y h k =
-    ⊎-elim (λ (e : a ≡ y). rw (eq-eqb a y e)) (λ (l : a < y). or-right (eqb a y) (among y (stretch (suc a) d)) (stretch-has (suc a) d y l (omega arith))) (eq-or-lt-of-le h)
+shift-stretch : (a b d : ℕ) → shifted a (stretch b d) ≡ stretch (a + b) d
+unfolding stretch
+shift-stretch a b zero = refl
+shift-stretch a b (suc d) = ap (λ (l : List ℕ). (a + b) ∷ l) (shift-stretch a (suc b) d ∙ rw (add-suc a b))
 
-pub stretch-only : (a d y : ℕ) → among y (stretch a d) ≡ true → (a ≤ y) × (y < a + d)
-unfolding stretch among anyOf
-stretch-only a zero y t = false-true t
-stretch-only a (suc d) y t =
-    ⊎-elim (λ e. let q = eqb-true a y e in (omega arith, omega arith)) (λ s. let r = stretch-only (suc a) d y s in (omega (arith, r .0), omega (arith, r .1)))
-    (either (eqb a y) (among y (stretch (suc a) d)) t)
+pub among-shifted : (x y : ℕ) (ts : List ℕ) → among (x + y) (shifted x ts) ≡ among y ts
+unfolding among anyOf
+among-shifted x y [] = refl
+among-shifted x y (t ∷ ts) = rw (same, among-shifted x y ts)
+  where
+    same : eqb (x + t) (x + y) ≡ eqb t y
+    same = both-ways (eqb (x + t) (x + y)) (eqb t y) (λ e. eq-eqb t y (omega (arith, eqb-true (x + t) (x + y) e))) (λ e. eq-eqb (x + t) (x + y) (omega (arith, eqb-true t y e)))
 
 module _ (f : ℕ → ℕ) where
-  nowhere : (a d : ℕ) → updated f (stretch a d) [] ≡ []
-  unfolding stretch updated
-  nowhere a zero = refl
-  nowhere a (suc d) = nowhere (suc a) d
+  nowhere : (ts : List ℕ) → updated f ts [] ≡ []
+  unfolding updated
+  nowhere [] = refl
+  nowhere (t ∷ ts) = nowhere ts
 
-  past : (a d x : ℕ) (b : List ℕ) → updated f (stretch (suc a) d) (x ∷ b) ≡ x ∷ updated f (stretch a d) b
-  unfolding stretch updated
-  past a zero x b = refl
-  past a (suc d) x b = past (suc a) d x (set b a (f (getD b a 0)))
+  past : (a x : ℕ) (ts b : List ℕ) → updated f (shifted (suc a) ts) (x ∷ b) ≡ x ∷ updated f (shifted a ts) b
+  unfolding updated
+  past a x [] b = refl
+  past a x (t ∷ ts) b = rw (suc-add a t) (past a x ts (set b (a + t) (f (getD b (a + t) 0))))
 
-  at-front : (d x : ℕ) (b : List ℕ) → updated f (stretch zero (suc d)) (x ∷ b) ≡ f x ∷ updated f (stretch zero d) b
-  unfolding stretch updated
-  at-front d x b = past zero d (f x) b
+  unshifted : (ts b : List ℕ) → updated f (shifted zero ts) b ≡ updated f ts b
+  unfolding updated
+  unshifted [] b = refl
+  unshifted (t ∷ ts) b = rw (zero-add t) (unshifted ts (set b t (f (getD b t 0))))
 
-  take-none : (d : ℕ) → take {A = ℕ} d [] ≡ []
-  take-none zero = refl
-  take-none (suc d) = refl
+  after : (a : ℕ) (ts b : List ℕ) → updated f (shifted a ts) b ≡ take a b ++ updated f ts (drop a b)
+  after zero ts b = unshifted ts b
+  after (suc a) ts [] = nowhere (shifted (suc a) ts) ∙ sym (nowhere ts)
+  after (suc a) ts (x ∷ b) = past a x ts b ∙ ap (λ (l : List ℕ). x ∷ l) (after a ts b)
 
-  -- updates side by side: of a part of the list
+  before : (ts c q : List ℕ) → All (λ t. t < length c) ts → updated f ts (c ++ q) ≡ updated f ts c ++ q
+  unfolding updated
+  before [] c q h = refl
+  before (t ∷ ts) c q h =
+      rw (List·getD-append c q 0 t (h .0), set-append-left c q t (f (getD c t 0)) (h .0))
+      (before ts (set c t (f (getD c t 0))) q (rw (length-set c t (f (getD c t 0))) (h .1)))
+
+  -- updates of the d nodes from a on
+  pub updated-part : (a d : ℕ) (ts b : List ℕ) → a + d ≤ length b → All (λ t. t < d) ts
+      → updated f (shifted a ts) b ≡ take a b ++ (updated f ts (take d (drop a b)) ++ drop d (drop a b))
+  updated-part a d ts b h k =
+      let long : length (take d (drop a b)) ≡ d = length-take-le d (drop a b) (omega (arith, length-drop a b)) in
+      after a ts b
+      ∙ ap (λ (l : List ℕ). take a b ++ l) (ap (updated f ts) (sym (take-append-drop d (drop a b))) ∙ before ts (take d (drop a b)) (drop d (drop a b)) (rw long k))
+
+  all-mapped : (d : ℕ) (b : List ℕ) → updated f (stretch zero d) b ≡ map f (take d b) ++ drop d b
+  unfolding updated stretch
+  all-mapped zero b = refl
+  all-mapped (suc d) [] = nowhere (stretch zero (suc d))
+  all-mapped (suc d) (x ∷ b) =
+      ap (λ (l : List ℕ). updated f l (f x ∷ b)) (sym (shift-stretch 1 0 d)) ∙ past 0 (f x) (stretch 0 d) b ∙ ap (λ (l : List ℕ). f x ∷ l) (unshifted (stretch 0 d) b ∙ all-mapped d b)
+
+  -- updates side by side
   pub updated-stretch : (a d : ℕ) (b : List ℕ) → updated f (stretch a d) b ≡ take a b ++ (map f (take d (drop a b)) ++ drop d (drop a b))
-  updated-stretch zero zero b = unfold stretch updated in refl
-  updated-stretch zero (suc d) [] = nowhere zero (suc d)
-  updated-stretch zero (suc d) (x ∷ b) = at-front d x b ∙ ap (λ (l : List ℕ). f x ∷ l) (updated-stretch zero d b)
-  updated-stretch (suc a) d [] = nowhere (suc a) d ∙ rw (take-none d, drop-nil {A = ℕ} d)
-  updated-stretch (suc a) d (x ∷ b) = past a d x b ∙ ap (λ (l : List ℕ). x ∷ l) (updated-stretch a d b)
+  updated-stretch a d b =
+      ap (λ (l : List ℕ). updated f l b) (sym (shift-stretch a 0 d ∙ rw (add-zero a))) ∙ after a (stretch 0 d) b ∙ ap (λ (l : List ℕ). take a b ++ l) (all-mapped d (drop a b))
