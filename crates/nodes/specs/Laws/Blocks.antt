@@ -7,7 +7,7 @@ use native.Mathlib.Nat.{add-suc, add-zero, mul-div-left, le-of-lt, le-step, lt-s
 use native.Mathlib.Omega.{arith}
 use lib.Arith.{digits-div, digits-mod}
 use lib.Dec.{ltb, eqb}
-use lib.ListN.{length, getD, take, drop, length-drop}
+use lib.ListN.{length, getD, take, drop, length-drop, length-append}
 use lib.Seq.{getD-take, getD-drop, length-take-le}
 use borrow.Author.Tests.{ne-eqb}
 use Rattle.laws.specs.Lists.{joined, anyOf}
@@ -97,6 +97,11 @@ trail-none ws b (suc f) h = rw (trail-none ws b f (λ i k. h i (le-step k)), h f
 
 -- ---- the walk over a block
 
+-- the byte at place r of the w nodes from x on, after crossings of which those to it are among ts
+pub part-byte : (x w : ℕ) (b us ts : List ℕ) → x + w ≤ length b → (r : ℕ) → r < w → among (x + r) us ≡ among r ts
+    → getD (updated enteredByte us b) (x + r) 0 ≡ cond (among r ts) (enteredByte (getD (take w (drop x b)) r 0)) (getD (take w (drop x b)) r 0)
+part-byte x w b us ts fits r h e = getD-updated enteredByte entered-once us b (x + r) (omega arith) ∙ rw (e, getD-take w (drop x b) r 0 h, getD-drop x b r 0)
+
 -- edges to nodes w further on lead past the first w
 pub stage-beyond : (w : ℕ) (b : List ℕ) (r k : ℕ) → r < w → among r (stageEdges w b k) ≡ false
 unfolding stageEdges joined
@@ -124,6 +129,26 @@ stage-inside w b (suc d) k h = all-append (λ t. t < w + k) (stageEdges w b d) _
 pub stage-front : (w k : ℕ) (b : List ℕ) (d : ℕ) → d ≤ k → stageEdges w (take k b) d ≡ stageEdges w b d
 unfolding stageEdges
 stage-front w k b d h = joined-cong _ _ d (λ j l. rw (getD-take k b j 0 (omega arith)))
+
+-- no edge leaves nodes that are not reached
+module _ (w : ℕ) (b : List ℕ) where
+  pub stage-none : (f : ℕ) → ((i : ℕ) → i < f → getD b i 0 ≡ 0) → stageEdges w b f ≡ []
+  unfolding stageEdges joined
+  stage-none zero h = refl
+  stage-none (suc f) h = rw (stage-none f (λ i k. h i (le-step k)), h f (lt-suc-self f))
+
+  pub stage-more : (k : ℕ) → length (stageEdges w b (suc k)) ≡ length (stageEdges w b k) + cond (eqb (getD b k 0) 0) 0 1
+  unfolding stageEdges joined
+  stage-more k = length-append (stageEdges w b k) _ ∙ rw (go (eqb (getD b k 0) 0))
+    where
+      go : (t : Bool) → length (cond t [] ((w + k) ∷ [])) ≡ cond t 0 1
+      go true = refl
+      go false = refl
+
+-- so as many leave the nodes from f on
+pub stage-later : (w : ℕ) (b : List ℕ) (f : ℕ) → ((i : ℕ) → i < f → getD b i 0 ≡ 0) → (d : ℕ) → length (stageEdges w b (f + d)) ≡ length (stageEdges w (drop f b) d)
+stage-later w b f h zero = rw (add-zero f, stage-none w b f h) (unfold stageEdges joined in refl)
+stage-later w b f h (suc d) = rw (add-suc f d) (stage-more w b (f + d) ∙ rw (stage-later w b f h d, ← getD-drop f b d 0) (sym (stage-more w (drop f b) d)))
 
 module _ (x : ℕ) where
   -- the edges of a node: the one to the next block, and those inside
@@ -182,14 +207,10 @@ module _ (m : ℕ) (ms b : List ℕ) (size : length b ≡ nodeCount (m ∷ ms)) 
   block-size = length-take-le w (drop x here) (omega (arith, length-drop x here, here-size, fits))
 
   module _ (r : ℕ) (h : r < w) where
-    byte-in : getD block r 0 ≡ getD here (x + r) 0
-    byte-in = getD-take w (drop x here) r 0 h ∙ getD-drop x here r 0
-
     -- bytes of the block after crossings of which those in the block are ts
     byte-after : (us ts : List ℕ) → among (x + r) us ≡ among r ts → getD (updated enteredByte us here) (x + r) 0 ≡ getD (updated enteredByte ts block) r 0
     byte-after us ts e =
-        getD-updated enteredByte entered-once us here (x + r) (omega (arith, here-size, fits))
-        ∙ rw (e, ← byte-in) (sym (getD-updated enteredByte entered-once ts block r (rw block-size h)))
+        part-byte x w here us ts (omega (arith, here-size, fits)) r h e ∙ sym (getD-updated enteredByte entered-once ts block r (rw block-size h))
 
     final : getD (drop x done) r 0 ≡ getD (updated enteredByte (own r) block) r 0
     final = getD-drop x done r 0 ∙ byte-after (shifted x (own w)) (own w) (among-shifted x r (own w)) ∙ settled ms block block-size r w (le-of-lt h) (rw block-size h)
@@ -267,6 +288,15 @@ module _ (ws b : List ℕ) (p : First ws (length b)) where
   pub later-are : drop 1 ws ≡ weightsOf (p .rest)
   unfolding weightsOf
   later-are = rw (p .weights-are)
+
+  -- a part whose weight is not 1 is not the last
+  pub not-last : (getD ws 0 0 ≡ 1 → ⊥) → 1 < length ws
+  unfolding nodeCount weightsOf
+  not-last h = go (p .rest) refl
+    where
+      go : (ms : List ℕ) → p .rest ≡ ms → 1 < length ws
+      go [] e = absurd (h (weight-is ∙ rw e))
+      go (m ∷ ms) e = rw (p .weights-are, e) (omega arith)
 
   module _ (a q : ℕ) (at : a ≡ q * getD ws 0 0) (inside : a < length b) where
     place : a ≡ q * nodeCount (p .rest)

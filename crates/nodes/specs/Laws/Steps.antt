@@ -119,7 +119,7 @@ entered-is b = or-step b 2 ∙ rw (or-step (b / 2) 1, or-zero-r (b / 2 / 2)) (om
 pub entered-once : (b : ℕ) → enteredByte (enteredByte b) ≡ enteredByte b
 entered-once b = rw (entered-is b, entered-is ((b / 2 / 2 * 2 + 1) * 2 + b % 2)) (omega arith)
 
-entered-some : (b : ℕ) → enteredByte b ≡ 0 → ⊥
+pub entered-some : (b : ℕ) → enteredByte b ≡ 0 → ⊥
 entered-some b e = omega (arith, entered-is b)
 
 -- a node that an edge leads to is reached

@@ -1,15 +1,17 @@
 -- Edges of a part of the nodes: numbers that stand side by side, numbers shifted, and updates at them.
 use mathlib.Core.Path.{_≡_, refl, sym, ap, _∙_}
+use mathlib.Core.Logic.{⊎-elim}
+use mathlib.Core.Bool.{true, false}
 use mathlib.Core.List.{List, [], _∷_, _++_, map}
 use Prim.Native.Nat.{ℕ, zero, suc, _+_, _<_, _≤_}
-use native.Mathlib.Nat.{add-suc, suc-add, add-zero, zero-add}
+use native.Mathlib.Nat.{add-suc, suc-add, add-zero, zero-add, eq-or-lt-of-le}
 use native.Mathlib.Omega.{arith}
 use lib.Dec.{eqb}
 use lib.ListN.{length, getD, set, take, drop, length-set, length-drop, List·getD-append, take-append-drop}
 use lib.Seq.{set-append-left, length-take-le}
-use borrow.Author.Tests.{eqb-true, eq-eqb}
+use borrow.Author.Tests.{eqb-true, eq-eqb, ne-eqb}
 use Rattle.laws.specs.Lists.{anyOf}
-use Rattle.laws.specs.Laws.Bools.{both-ways}
+use Rattle.laws.specs.Laws.Bools.{both-ways, or-right}
 use Rattle.nodes.specs.Steps.{stretch, shifted, updated}
 use Rattle.nodes.specs.Laws.Some.{All, among}
 
@@ -23,10 +25,21 @@ unfolding stretch
 stretch-more a zero = rw (add-zero a)
 stretch-more a (suc d) = ap (λ (l : List ℕ). a ∷ l) (stretch-more (suc a) d ∙ rw (suc-add a d, add-suc a d))
 
-shift-stretch : (a b d : ℕ) → shifted a (stretch b d) ≡ stretch (a + b) d
+pub shift-stretch : (a b d : ℕ) → shifted a (stretch b d) ≡ stretch (a + b) d
 unfolding stretch
 shift-stretch a b zero = refl
 shift-stretch a b (suc d) = ap (λ (l : List ℕ). (a + b) ∷ l) (shift-stretch a (suc b) d ∙ rw (add-suc a b))
+
+pub stretch-has : (a d y : ℕ) → a ≤ y → y < a + d → among y (stretch a d) ≡ true
+unfolding stretch among anyOf
+stretch-has a zero y h k = let w : ⊥ = omega arith in absurd w
+stretch-has a (suc d) y h k =
+    ⊎-elim (λ (e : a ≡ y). rw (eq-eqb a y e)) (λ (l : a < y). or-right (eqb a y) (among y (stretch (suc a) d)) (stretch-has (suc a) d y l (omega arith))) (eq-or-lt-of-le h)
+
+pub stretch-beyond : (a d y : ℕ) → y < a → among y (stretch a d) ≡ false
+unfolding stretch among anyOf
+stretch-beyond a zero y h = refl
+stretch-beyond a (suc d) y h = rw (ne-eqb a y (λ e. omega arith), stretch-beyond (suc a) d y (omega arith))
 
 pub among-shifted : (x y : ℕ) (ts : List ℕ) → among (x + y) (shifted x ts) ≡ among y ts
 unfolding among anyOf
