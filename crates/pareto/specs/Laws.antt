@@ -1,4 +1,5 @@
 pub mod Dominance
+pub mod Competing
 pub mod Best
 pub mod Marks
 pub mod Table

@@ -3,11 +3,12 @@ use preference::PreferenceList;
 ghost use mathlib.Core.Path.{_≡_};
 ghost use Prim.Native.Nat.{_+_, _*_, _≤_};
 ghost use mathlib.Core.Bool.{Bool};
-ghost use lib.ListN.{length};
+ghost use lib.ListN.{length, set};
 ghost use lib.Seq.{sets};
 ghost use Rattle.laws.specs.First.{anyBelow};
 ghost use Rattle.runs.specs.Log.{rowAt};
 ghost use Rattle.preference.specs.Parts.{rowNumber};
+ghost use Rattle.pareto.specs.Best.{competes, competing};
 ghost use Rattle.pareto.specs.Checked.{rowsNumber, checkedNumber};
 ghost use Rattle.pareto.specs.Table.{tableOf, lower, hasLower, relation, compared};
 
@@ -53,6 +54,41 @@ pub fn checked_number(list: PreferenceList, log: &[i32], more: u8) -> u8
         return more;
     }
     rows_number(list, log)
+}
+
+// ---- the competing rows
+
+// Whether a row competes.
+fn row_competes(log: &[i32], r: usize) -> bool
+    ensures { λ b. ⌜ b ≡ competes (now (log .entry)) r ⌝ }
+{
+    true
+}
+
+// A place past the end is stored nowhere.
+fn store_row(rows: &mut [usize], i: usize, r: usize)
+    ensures { λ _. ⌜ now (rows .exit) ≡ set (now (rows .entry)) i r ⌝ }
+{
+    if i < rows.len() {
+        rows[i] = r;
+    }
+}
+
+// Writes the numbers of the competing rows, in order, to the front of a list, and gives how many there are.
+pub fn competing_rows(log: &[i32], rows: &mut [usize]) -> usize
+    ensures { λ n. ⌜ (n ≡ length (competing (now (log .entry)))) × (now (rows .exit) ≡ sets (now (rows .entry)) 0 (competing (now (log .entry)))) ⌝ }
+{
+    let count = log.len() / 8;
+    let mut n: usize = 0;
+    let mut r: usize = 0;
+    while r < count {
+        if row_competes(log, r) {
+            store_row(rows, n, r);
+            n += 1;
+        }
+        r += 1;
+    }
+    n
 }
 
 // ---- the level table
