@@ -67,8 +67,8 @@ pub competing-at : (log : List ℤ) (i : ℕ) → i < length (competing log) →
 competing-at log i h = competing-below log (getD (competing log) i 0) (at-place (competing log) i h)
 
 -- they stand at the front of a list that they were stored in
-pub competing-front : (log : List ℤ) (lent : List ℕ) → rowCount log ≤ length lent → take (length (competing log)) (sets lent 0 (competing log)) ≡ competing log
-competing-front log lent h = stored-front lent (competing log) (omega (arith, competing-few log))
+pub competing-front : (log : List ℤ) (lent rows : List ℕ) (n : ℕ) → rowCount log ≤ length lent → n ≡ length (competing log) → rows ≡ sets lent 0 (competing log) → take n rows ≡ competing log
+competing-front log lent rows n h e f = rw (e, f) (stored-front lent (competing log) (omega (arith, competing-few log)))
 
 -- ---- the list as it is written, row by row
 

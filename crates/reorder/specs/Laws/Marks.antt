@@ -1,5 +1,5 @@
 -- Rows keep their vectors, whether they compete and what dominates them wherever they stand, and so their marks.
-use mathlib.Core.Path.{_≡_, refl, sym, ap, ap₂, _∙_}
+use mathlib.Core.Path.{_≡_, sym, ap, ap₂, _∙_}
 use Prim.Native.Nat.{ℕ, _<_}
 use native.Mathlib.Omega.{arith}
 use mathlib.Core.Bool.{Bool, true, not, _&&_, cond}
@@ -10,18 +10,14 @@ use Rattle.laws.specs.Lists.{anyOf}
 use Rattle.laws.specs.Laws.AnyOf.{Found, passing-found, passing-any}
 use Rattle.laws.specs.Laws.Bools.{both-ways}
 use Rattle.laws.specs.Laws.Joined.{singles-at}
-use Rattle.runs.specs.Log.{rowCount, rowAt}
+use Rattle.runs.specs.Log.{rowCount}
 use Rattle.preference.specs.Parts.{levels}
 use Rattle.preference.specs.declared.PreferenceList.{PreferenceList}
 use Rattle.pareto.specs.Dominance.{dominates}
 use Rattle.pareto.specs.Best.{competes, competing, vectorAt, rowDominates, isBest, markAt, marksOf, marksAfter}
+use Rattle.pareto.specs.Laws.Competing.{competes-same}
 use Rattle.pareto.specs.Laws.Marks.{mark-there}
 use Rattle.reorder.specs.Reordered.{Reordered}
-
--- whether a row competes is told by the row
-competes-same : (log log′ : List ℤ) (r p : ℕ) → rowAt log′ p ≡ rowAt log r → competes log′ p ≡ competes log r
-unfolding competes
-competes-same log log′ r p e = refl
 
 module _ (l : PreferenceList) (log log′ : List ℤ) (place origin : ℕ → ℕ) (h : Reordered log log′ place origin) where
   vector-same : (r : ℕ) → r < rowCount log → vectorAt l log′ (place r) ≡ vectorAt l log r
