@@ -1,2 +1,2 @@
-pub mod Climb
+pub mod First
 pub mod Answer

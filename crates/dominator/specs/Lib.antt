@@ -1,3 +1,3 @@
 pub mod Engine
-pub mod Climb
+pub mod First
 pub mod Laws

@@ -1,7 +1,8 @@
-// Which run beat a row: a row of the shortlist that betters it, reached by climbing the level table once.
+// Which run beat a row: the first row of the shortlist that betters it.
 use preference::PreferenceList;
 ghost use mathlib.Core.Path.{_≡_};
-ghost use Rattle.dominator.specs.Climb.{Ladder, Climb, higher, Accepted, Climbed};
+ghost use Rattle.laws.specs.Lists.{anyOf};
+ghost use Rattle.dominator.specs.First.{beats, bestBeats, firstOf, firstDominator, Accepted};
 ghost use Rattle.dominator.specs.Engine.{Answered};
 
 // A row of the shortlist that betters the asked one, or the number that the call is refused by.
@@ -10,37 +11,56 @@ pub enum DominatorAnswer {
     Refused(u8),
 }
 
-// Row s of a table where it dominates row `best`, else `best`.
-fn higher_of(table: &[u16], s: usize, best: usize) -> usize
-    ensures { λ r. ⌜ r ≡ higher (now (table .entry)) s best ⌝ }
+// Whether a row of a list dominates row s of a table.
+fn is_dominated(table: &[u16], rows: &[usize], s: usize) -> bool
+    ensures { λ b. ⌜ b ≡ anyOf (λ q. beats (now (table .entry)) q s) (now (rows .entry)) ⌝ }
 {
-    let relation = pareto::compare(table, s, best);
-    if relation == 1 { s } else { best }
-}
-
-// From row `row` of a table of n rows up: each row that dominates the one reached takes its place.
-fn climb(table: &[u16], n: usize, row: usize) -> usize
-    requires { ⌜ Ladder (now table) n row ⌝ }
-    ensures { λ best. ⌜ Climb (now (table .entry)) n row n best ⌝ }
-{
-    let mut best = row;
-    let mut s: usize = 0;
-    while s < n {
-        best = higher_of(table, s, best);
-        s += 1;
+    let mut i: usize = 0;
+    while i < rows.len() {
+        if pareto::compare(table, rows[i], s) == 1 {
+            return true;
+        }
+        i += 1;
     }
-    best
+    false
 }
 
-// The climb on the level table of what the checks accepted.
-fn climb_log(list: PreferenceList, log: &[i32], row: usize) -> usize
+// Whether row s of a table dominates another, and no row of a list dominates it.
+fn is_best_dominator(table: &[u16], rows: &[usize], row: usize, s: usize) -> bool
+    ensures { λ b. ⌜ b ≡ bestBeats (now (table .entry)) (now (rows .entry)) row s ⌝ }
+{
+    if pareto::compare(table, s, row) != 1 {
+        return false;
+    }
+    !is_dominated(table, rows, s)
+}
+
+// The first row of a list that dominates another and that none of the list dominates, or `none`.
+fn first_dominator(table: &[u16], rows: &[usize], row: usize, none: usize) -> usize
+    ensures { λ s. ⌜ s ≡ firstOf (bestBeats (now (table .entry)) (now (rows .entry)) row) (now (rows .entry)) none ⌝ }
+{
+    let mut i: usize = 0;
+    while i < rows.len() {
+        let s = rows[i];
+        if is_best_dominator(table, rows, row, s) {
+            return s;
+        }
+        i += 1;
+    }
+    none
+}
+
+// The search among the competing rows of what the checks accepted.
+fn first_of_log(list: PreferenceList, log: &[i32], row: usize) -> usize
     requires { ⌜ Accepted list (now log) row ⌝ }
-    ensures { λ best. ⌜ Climbed list (now (log .entry)) row best ⌝ }
+    ensures { λ s. ⌜ s ≡ firstDominator list (now (log .entry)) row ⌝ }
 {
     let n = log.len() / 8;
     let mut table = [0u16; 8192];
     pareto::fill_table(list, log, &mut table);
-    climb(&table[..8 * n], n, row)
+    let mut rows = [0usize; 1024];
+    let count = pareto::competing_rows(log, &mut rows);
+    first_dominator(&table[..8 * n], &rows[..count], row, n)
 }
 
 // Answers with a row of the shortlist that betters the asked one.
@@ -56,9 +76,9 @@ pub fn of(list: PreferenceList, log: &[i32], row: u32) -> DominatorAnswer
     if n <= asked {
         return DominatorAnswer::Refused(12);
     }
-    let best = climb_log(list, log, asked);
-    if best == asked {
+    let first = first_of_log(list, log, asked);
+    if n <= first {
         return DominatorAnswer::Refused(13);
     }
-    DominatorAnswer::Row(best as u32)
+    DominatorAnswer::Row(first as u32)
 }

@@ -4,21 +4,23 @@ use Prim.Native.Nat.{ℕ, _<_, _≤_}
 use native.Mathlib.Omega.{arith}
 use mathlib.Core.Bool.{Bool, true, false, _&&_}
 use mathlib.Core.List.{List}
-use mathlib.Core.Logic.{⊎-elim}
 use lib.Dec.{leb}
 use lib.IntN.{ℤ}
 use borrow.Author.Tests.{le-leb, lt-leb}
 use Rattle.laws.specs.Checks.{_gives_, _then_}
 use Rattle.laws.specs.Laws.AnyOf.{passing-any}
-use Rattle.laws.specs.Laws.Bools.{both}
+use Rattle.laws.specs.Laws.Bools.{both, false-true}
 use Rattle.laws.specs.Laws.Checks.{gives-yes, gives-no, then-first, then-next, then-none}
+use Rattle.laws.specs.Laws.First.{first-is}
 use Rattle.runs.specs.Log.{rowCount, logNumber}
 use Rattle.runs.specs.Laws.Log as runs
 use Rattle.preference.specs.Valid.{listNumber}
 use Rattle.preference.specs.declared.PreferenceList.{PreferenceList}
 use Rattle.pareto.specs.Best.{competes, competing, rowDominates, isBest}
 use Rattle.pareto.specs.Checked.{checkedNumber}
-use Rattle.dominator.specs.Climb.{Accepted, Climbed}
+use Rattle.pareto.specs.Laws.Best.{dominated-by-best}
+use Rattle.pareto.specs.Laws.Competing.{every-competes}
+use Rattle.dominator.specs.First.{bestDominates, firstDominator, Accepted}
 use Rattle.dominator.specs.Engine.{dominatorNumber, Answered}
 use Rattle.dominator.specs.declared.DominatorAnswer.the-variants.{Row, Refused}
 
@@ -45,12 +47,20 @@ module _ (l : PreferenceList) (log : List ℤ) (row k : ℕ) (e : k ≡ checkedN
   unfolding dominatorNumber
   number-is z h = then-next (checkedNumber l log 0) _ (sym e ∙ z) ∙ then-next (leb (rowCount log) row gives 12) _ (gives-no (leb (rowCount log) row) 12 (lt-leb (rowCount log) row h))
 
-  pub shortlisted : k ≡ 0 → row < rowCount log → (best : ℕ) → Climbed l log row best → best ≡ row → Answered l log row (Refused 13)
-  unfolding Answered
-  shortlisted z h best c s = record {
-    number = sym (number-is z h ∙ gives-yes (isBest l log row) 13 (rw s at (c .shortlisted)));
+  -- no best row dominates it, so it is best itself: a row that is not is dominated by a best one
+  pub shortlisted : k ≡ 0 → row < rowCount log → (s : ℕ) → s ≡ firstDominator l log row → rowCount log ≤ s → Answered l log row (Refused 13)
+  unfolding Answered firstDominator
+  shortlisted z h s f n = record {
+    number = sym (number-is z h ∙ gives-yes (isBest l log row) 13 (itself (isBest l log row) refl));
     some = λ y. omega arith;
   }
+    where
+      itself : (t : Bool) → isBest l log row ≡ t → t ≡ true
+      itself true e = refl
+      itself false e =
+          let b = dominated-by-best l log row (every-competes log row) e in
+          let d : bestDominates l log row (b .best) ≡ true = rw (b .is-best, b .beats) in
+          false-true (sym (first-is (bestDominates l log row) (rowCount log) .before (b .best) (omega (arith, b .row))) ∙ d)
 
   row-beaten : (best : ℕ) → best < rowCount log → isBest l log best ≡ true → rowDominates l log best row ≡ true → isBest l log row ≡ false
   unfolding isBest competing
@@ -62,13 +72,13 @@ module _ (l : PreferenceList) (log : List ℤ) (row k : ℕ) (e : k ≡ checkedN
       and-false true = refl
       and-false false = refl
 
-  pub beaten : k ≡ 0 → row < rowCount log → (best : ℕ) → Climbed l log row best → (best ≡ row → ⊥) → Answered l log row (Row best)
-  unfolding Answered
-  beaten z h best c n =
-      let d : rowDominates l log best row ≡ true = ⊎-elim (λ (y : best ≡ row). absurd (n y)) (λ (y : rowDominates l log best row ≡ true). y) (c .reached) in
+  pub beaten : k ≡ 0 → row < rowCount log → (s : ℕ) → s ≡ firstDominator l log row → s < rowCount log → Answered l log row (Row s)
+  unfolding Answered firstDominator
+  beaten z h s f n =
+      let d = both (isBest l log s) (rowDominates l log s row) (rw f (first-is (bestDominates l log row) (rowCount log) .there (rw f at n))) in
       record {
-        accepted = number-is z h ∙ gives-no (isBest l log row) 13 (row-beaten best (c .within) (c .shortlisted) d);
-        is-row = c .within;
-        shortlisted = c .shortlisted;
-        betters = d;
+        accepted = number-is z h ∙ gives-no (isBest l log row) 13 (row-beaten s n (d .0) (d .1));
+        is-row = n;
+        shortlisted = d .0;
+        betters = d .1;
       }

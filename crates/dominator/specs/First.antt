@@ -1,0 +1,45 @@
+-- The search: the first row of the shortlist that dominates the asked one.
+use mathlib.Core.Path.{_≡_}
+use Prim.Native.Nat.{ℕ, _<_, _≤_}
+use mathlib.Core.Bool.{Bool, not, _&&_, cond}
+use mathlib.Core.List.{List, [], _∷_}
+use lib.Dec.{eqb}
+use lib.IntN.{ℤ}
+use Rattle.laws.specs.First.{firstAt}
+use Rattle.laws.specs.Lists.{anyOf}
+use Rattle.runs.specs.Log.{rowCount}
+use Rattle.preference.specs.Valid.{listNumber}
+use Rattle.preference.specs.declared.PreferenceList.{PreferenceList}
+use Rattle.pareto.specs.Best.{rowDominates, isBest}
+use Rattle.pareto.specs.Checked.{rowsNumber}
+use Rattle.pareto.specs.Table.{compared}
+
+-- row s is on the shortlist and betters row r
+abbrev pub bestDominates : PreferenceList → List ℤ → ℕ → ℕ → Bool
+bestDominates l log r s = isBest l log s && rowDominates l log s r
+
+-- the first such row; the number of rows where there is none
+unfoldable pub firstDominator : PreferenceList → List ℤ → ℕ → ℕ
+firstDominator l log row = firstAt (bestDominates l log row) (rowCount log)
+
+-- what the checks leave
+pub record Accepted (l : PreferenceList) (log : List ℤ) (row : ℕ) : Type 0 where
+  pub list : listNumber l ≡ 0
+  pub values : rowsNumber l log ≡ 0
+  pub few : rowCount log ≤ 1024
+  pub is-row : row < rowCount log
+
+-- ---- the search in a table and a list of its rows
+
+-- row s of a table dominates row r
+abbrev pub beats : List ℕ → ℕ → ℕ → Bool
+beats table s r = eqb (compared table s r) 1
+
+-- row s dominates row r, and no row of the list dominates s
+unfoldable pub bestBeats : List ℕ → List ℕ → ℕ → ℕ → Bool
+bestBeats table rows r s = beats table s r && not (anyOf (λ q. beats table q s) rows)
+
+-- the first row of a list with a property, or `none`
+unfoldable pub firstOf : (ℕ → Bool) → List ℕ → ℕ → ℕ
+firstOf p [] none = none
+firstOf p (s ∷ rows) none = cond (p s) s (firstOf p rows none)
