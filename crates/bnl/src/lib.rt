@@ -41,7 +41,15 @@ fn run_accepted(
     let n = log.len() / 8;
     let mut table = [0u16; 8192];
     pareto::fill_table(list, log, &mut table);
-    passes::run_table(&table[..8 * n], n, w as usize, &mut marks[..n], work) as u32
+    let mut rows = [0usize; 1024];
+    let count = pareto::competing_rows(log, &mut rows);
+    passes::run_rows(
+        &table[..8 * n],
+        &rows[..count],
+        w as usize,
+        &mut marks[..n],
+        work,
+    ) as u32
 }
 
 // Marks the best matches of a log, with a window of w entries.

@@ -5,11 +5,10 @@ use mathlib.Core.Path.{_≡_, refl, sym, ap, _∙_}
 use mathlib.Core.Bool.{Bool, false, cond}
 use mathlib.Core.List.{List, map, List·Memᴰ·not-nil}
 use lib.ListN.{length, replicate}
-use Rattle.laws.specs.Laws.Joined.{singles-length}
 use Rattle.machine.specs.Laws.Order.{Ordered}
 use Rattle.machine.specs.Machine.{Entry, State, marked, pass, passes, renew, finish, isEmpty, unread, start, machine}
 use Rattle.window.specs.Work.{entries, stateOf, stateAt}
-use Rattle.passes.specs.Passes.{allRows, PassReady, Passed, RunReady, Ran}
+use Rattle.passes.specs.Passes.{PassReady, Passed, RunReady, Ran}
 use Rattle.window.specs.declared.Standing.{Standing}
 
 -- `left` passes may still come, over the entries that wait now
@@ -119,15 +118,15 @@ module _ {dom : ℕ → ℕ → Bool} {w n fuel flags : ℕ} {l m : List ℕ} (g
     unfolding passes stateOf
     running-out h = let o : left ≡ 0 = omega arith in record { count-is = rw o at (z .counts); marks-are = rw o at (z .makes) }
 
--- what the passes over all rows leave is the machine's result
-module _ {dom : ℕ → ℕ → Bool} {w n : ℕ} {l m m′ : List ℕ} {c : ℕ} (z : Ran dom w n (n * n + 1) l m m′ c)
-    (filled : entries l w n ≡ map unread (allRows n)) (cleared : m ≡ replicate n 0) where
-  same : passes dom w (n * n + 1) (entries l w n) (stateOf w l m 0 0 0 0) ≡ machine dom w (allRows n) n
+-- what the passes over rows that wait leave is the machine's result
+module _ (n : ℕ) (rows : List ℕ) {dom : ℕ → ℕ → Bool} {w : ℕ} {l m m′ : List ℕ} {c : ℕ} (z : Ran dom w (length rows) (length rows * length rows + 1) l m m′ c)
+    (filled : entries l w (length rows) ≡ map unread rows) (cleared : m ≡ replicate n 0) where
+  same : passes dom w (length rows * length rows + 1) (entries l w (length rows)) (stateOf w l m 0 0 0 0) ≡ machine dom w rows n
   unfolding machine start stateOf entries
-  same = let e = singles-length (λ (r : ℕ). r) n in rw (filled, cleared, e)
+  same = rw (filled, cleared)
 
-  pub ran-count : c ≡ machine dom w (allRows n) n .count
+  pub ran-count : c ≡ machine dom w rows n .count
   ran-count = z .count-is ∙ ap (λ (st : State). st .count) same
 
-  pub ran-marks : m′ ≡ machine dom w (allRows n) n .marks
+  pub ran-marks : m′ ≡ machine dom w rows n .marks
   ran-marks = z .marks-are ∙ ap (λ (st : State). st .marks) same

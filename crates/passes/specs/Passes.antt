@@ -1,17 +1,20 @@
 -- What the passes over the rows of a level table promise, on the lists that hold the machine's state (window: specs/Work).
 use Prim.Native.Nat.{ℕ, _+_, _*_, _≤_, _<_}
 use mathlib.Core.Path.{_≡_}
-use mathlib.Core.Bool.{Bool, true}
+use mathlib.Core.Bool.{Bool}
 use mathlib.Core.List.{List}
-use Rattle.laws.specs.Lists.{passing}
+use lib.ListN.{getD, length}
 use Rattle.machine.specs.Laws.Order.{Ordered}
 use Rattle.machine.specs.Machine.{pass, passes}
 use Rattle.window.specs.Work.{entries, stateOf, stateAt}
 use Rattle.window.specs.declared.Standing.{Standing}
 
--- all rows below n
-abbrev pub allRows : ℕ → List ℕ
-allRows n = passing (λ r. true) n
+-- rows that can wait behind a window of w entries: their numbers fit 32 bits, and there is room for them
+pub record Waits (w : ℕ) (rows : List ℕ) (size : ℕ) : Type 0 where
+  pub narrow : w ≤ 1024
+  pub few : length rows ≤ 1024
+  pub small : (i : ℕ) → i < length rows → getD rows i 0 < 4294967296
+  pub room : 2 * (w + length rows) ≤ size
 
 -- a pass over the n entries that wait may begin
 pub record PassReady (w n size flags : ℕ) (p : Standing) : Type 0 where

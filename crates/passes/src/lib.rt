@@ -8,7 +8,7 @@ ghost use lib.ListN.{length, replicate};
 ghost use Rattle.machine.specs.Machine.{marked, unread, machine};
 ghost use Rattle.machine.specs.Laws.Order.{Ordered};
 ghost use Rattle.window.specs.Work.{tableDominates, entries, stateAt};
-ghost use Rattle.passes.specs.Passes.{allRows, PassReady, Passed, RunReady, Ran};
+ghost use Rattle.passes.specs.Passes.{Waits, PassReady, Passed, RunReady, Ran};
 
 // Reads the n entries that wait.
 fn one_pass(
@@ -87,7 +87,7 @@ fn all_passes(
     p.count
 }
 
-// ---- the machine on a table
+// ---- the machine on rows of a table
 
 fn clear(marks: &mut [u8])
     ensures { λ _. ⌜ now (marks .exit) ≡ replicate (length (now (marks .entry))) 0 ⌝ }
@@ -99,25 +99,32 @@ fn clear(marks: &mut [u8])
     }
 }
 
-// The rows below n wait, from entry w on.
-fn fill_rows(work: &mut [u32], w: usize, n: usize)
-    requires { ⌜ (w ≤ 1024) × (n ≤ 1024) × (2 * (w + n) ≤ length (now work)) ⌝ }
-    ensures { λ _. ⌜ entries (now (work .exit)) w n ≡ map unread (allRows n) ⌝ }
+// These rows wait, from entry w on.
+fn fill_waiting(work: &mut [u32], w: usize, rows: &[usize])
+    requires { ⌜ Waits w (now rows) (length (now work)) ⌝ }
+    ensures { λ _. ⌜ entries (now (work .exit)) w (length (now (rows .entry))) ≡ map unread (now (rows .entry)) ⌝ }
 {
     let mut i: usize = 0;
-    while i < n {
-        window::put_entry(work, w + i, i as u32, 0);
+    while i < rows.len() {
+        window::put_entry(work, w + i, rows[i] as u32, 0);
         i += 1;
     }
 }
 
-// The machine on the n rows of a table, in marks as many; the compares made come back.
-pub fn run_table(table: &[u16], n: usize, w: usize, marks: &mut [u8], work: &mut [u32]) -> usize
-    requires { ⌜ (n ≤ 1024) × (w ≤ 1024) × (2 * (w + n) ≤ length (now work)) × (length (now marks) ≡ n) ⌝ }
-    ensures { λ c. ⌜ (c ≡ machine (tableDominates (now (table .entry))) w (allRows n) n .count) × (now (marks .exit) ≡ machine (tableDominates (now (table .entry))) w (allRows n) n .marks) ⌝ }
+// The machine on these rows of a table; the compares made come back.
+pub fn run_rows(
+    table: &[u16],
+    rows: &[usize],
+    w: usize,
+    marks: &mut [u8],
+    work: &mut [u32],
+) -> usize
+    requires { ⌜ Waits w (now rows) (length (now work)) ⌝ }
+    ensures { λ c. ⌜ (c ≡ machine (tableDominates (now (table .entry))) w (now (rows .entry)) (length (now (marks .entry))) .count) × (now (marks .exit) ≡ machine (tableDominates (now (table .entry))) w (now (rows .entry)) (length (now (marks .entry))) .marks) ⌝ }
 {
     clear(marks);
-    fill_rows(work, w, n);
+    fill_waiting(work, w, rows);
+    let n = rows.len();
     let mut flags = [0u8; 1024];
     all_passes(table, w, n, n * n + 1, work, marks, &mut flags)
 }

@@ -1,17 +1,55 @@
-use lib.ListN.{length-replicate, drop}
-use Rattle.runs.specs.Log.{rowCount}
-use mathlib.Core.Path.{sym, ap, _∙_}
+use mathlib.Core.Path.{_≡_, sym, ap, _∙_}
 use mathlib.Core.List.{List, _++_}
-use lib.Seq.{length-take-le}
-use Rattle.machine.specs.Machine.{State}
-use Rattle.pareto.specs.Best.{marksAfter}
-use Rattle.bnl.specs.Laws.Marks.{machine-best, count-small}
-use Rattle.bnl.proofs.Table.{filled-machine}
-use borrow.Author.Needs.{needs}
+use Prim.Native.Nat.{ℕ, _*_, _≤_}
 use native.Mathlib.Omega.{arith}
-use Prim.Native.Nat.{ℕ, _+_}
+use lib.IntN.{ℤ}
+use lib.ListN.{length, take, drop, length-replicate}
+use lib.Seq.{length-take-le}
+use borrow.Author.Needs.{needs}
+use Rattle.runs.specs.Log.{rowCount}
+use Rattle.pareto.specs.Best.{competing, marksAfter}
+use Rattle.pareto.specs.Laws.Competing.{competing-few, competing-front}
+use Rattle.machine.specs.Machine.{State, machine}
+use Rattle.window.specs.Work.{tableDominates}
+use Rattle.bnl.specs.Engine.{machineOf}
+use Rattle.bnl.specs.Laws.Marks.{machine-best, count-small}
+use Rattle.bnl.proofs.Table.{rows-wait, filled-machine}
 use Rattle.bnl.proofs.run_accepted.Statement.{statement}
 use Rattle.bnl.proofs.run_accepted.Tie as tie
+
+module _ (d : tie.After-competing-rows) where
+  abbrev start : tie.Start
+  start = d .before .before .before .before .before .before .before
+
+  abbrev log : List ℤ
+  log = start .args .log .now
+
+  abbrev table : List ℕ
+  table = d .before .before .before .fill-table .last .1 .1 .0
+
+  abbrev rows : List ℕ
+  rows = d .competing-rows .last .1 .0
+
+  table-long : 8 * rowCount log ≤ length table
+  table-long = omega (arith, start .pre .few, d .before .before .before .fill-table .kept .1 .1 .0, length-replicate {A = ℕ} 8192 0)
+
+  rows-long : d .competing-rows .result ≤ length rows
+  rows-long = omega (arith, start .pre .few, d .competing-rows .ensures .0, competing-few log, d .competing-rows .kept .1 .0, length-replicate {A = ℕ} 1024 0)
+
+  rows-are : take (d .competing-rows .result) rows ≡ competing log
+  rows-are =
+      competing-front log _ rows (d .competing-rows .result) (omega (arith, start .pre .few, length-replicate {A = ℕ} 1024 0))
+      (d .competing-rows .ensures .0) (d .competing-rows .ensures .1)
+
+  marks-long : length (take (rowCount log) (start .args .marks .now)) ≡ rowCount log
+  marks-long = length-take-le _ (start .args .marks .now) (start .pre .marked)
+
+  -- the machine that runs is the machine on the log
+  runs : machine (tableDominates (take (8 * rowCount log) table)) (start .args .w) (take (d .competing-rows .result) rows) (length (take (rowCount log) (start .args .marks .now)))
+      ≡ machineOf (start .args .list) log (start .args .w)
+  runs =
+      filled-machine (start .args .list) log _ _ (start .args .w) (start .pre) _ table _ _ (d .before .before .before .fill-table .ensures)
+      (omega (arith, length-replicate {A = ℕ} 8192 0)) rows-are marks-long
 
 slice-aggregate-fill-table : tie.Need-slice-aggregate-fill-table
 slice-aggregate-fill-table c = search needs
@@ -19,35 +57,44 @@ slice-aggregate-fill-table c = search needs
 fill-table-requires : tie.Need-fill-table-requires
 fill-table-requires c κs = search needs
 
+slice-aggregate-competing-rows : tie.Need-slice-aggregate-competing-rows
+slice-aggregate-competing-rows c = search needs
+
+competing-rows-requires : tie.Need-competing-rows-requires
+competing-rows-requires c κs = search needs
+
 mul-table : tie.Need-mul-table
 mul-table c = search needs
 
 array-share-prefix-table : tie.Need-array-share-prefix-table
-array-share-prefix-table c = omega (arith, c .before .before .before .before .before .pre .few, c .before .fill-table .kept .1 .1 .0, length-replicate {A = ℕ} 8192 0)
+array-share-prefix-table c = table-long (c .before)
 
-slice-aggregate-run-table : tie.Need-slice-aggregate-run-table
-slice-aggregate-run-table c =
-    let f = c .before .before .fill-table in
-    sym (length-take-le _ (f .last .1 .1 .0) (omega (arith, c .before .before .before .before .before .before .pre .few, f .kept .1 .1 .0, length-replicate {A = ℕ} 8192 0)))
+slice-aggregate-run-rows : tie.Need-slice-aggregate-run-rows
+slice-aggregate-run-rows c = sym (length-take-le _ (table (c .before .before)) (table-long (c .before .before)))
 
-slice-relend-prefix-run-table : tie.Need-slice-relend-prefix-run-table
-slice-relend-prefix-run-table c = c .before .before .before .before .before .before .pre .marked
+array-share-prefix-rows : tie.Need-array-share-prefix-rows
+array-share-prefix-rows c = rows-long (c .before .before)
 
-slice-aggregate-run-table-2 : tie.Need-slice-aggregate-run-table-2
-slice-aggregate-run-table-2 c = let s = c .before .before .before .before .before .before .before in sym (length-take-le _ (s .args .marks .now) (s .pre .marked))
+slice-aggregate-run-rows-2 : tie.Need-slice-aggregate-run-rows-2
+slice-aggregate-run-rows-2 c = sym (length-take-le _ (rows (c .before .before .before)) (rows-long (c .before .before .before)))
 
-run-table-requires : tie.Need-run-table-requires
-run-table-requires c κs =
-    let s = c .before .before .before .before .before .before .before .before in
-    (s .pre .few, s .pre .narrow, omega (arith, s .pre .room), length-take-le _ (s .args .marks .now) (s .pre .marked))
+slice-relend-prefix-run-rows : tie.Need-slice-relend-prefix-run-rows
+slice-relend-prefix-run-rows c = search needs
+
+slice-aggregate-run-rows-3 : tie.Need-slice-aggregate-run-rows-3
+slice-aggregate-run-rows-3 c = sym (marks-long (c .before .before .before .before))
+
+run-rows-requires : tie.Need-run-rows-requires
+run-rows-requires c κs =
+    let d = c .before .before .before .before .before in
+    let s = start d in
+    rw (rows-are d) (rows-wait (s .args .list) (s .args .log .now) _ _ (s .args .w) (s .pre))
 
 cast-result : tie.Need-cast-result
 cast-result c =
-    let f = c .before .before .before .before .before .before .before .before .before .fill-table in
-    let s = c .before .before .before .before .before .before .before .before .before .before .before .before .before in
-    let a = s .args in
-    let m = filled-machine (a .list) (a .log .now) _ _ (a .w) (s .pre) _ (f .last .1 .1 .0) (f .ensures) (omega (arith, length-replicate {A = ℕ} 8192 0)) in
-    omega (arith, c .before .before .before .before .run-table .ensures .0 ∙ ap (λ (st : State). st .count) m, count-small (a .list) (a .log .now) (a .w) (s .pre .some) (s .pre .few))
+    let d = c .before .before .before .before .before .before .before .before .before .before in
+    let s = start d in
+    omega (arith, c .before .before .before .before .run-rows .ensures .0 ∙ ap (λ (st : State). st .count) (runs d), count-small (s .args .list) (s .args .log .now) (s .args .w) (s .pre .some) (s .pre .few))
 
 same-length : tie.Need-same-length
 same-length c = search needs
@@ -58,13 +105,12 @@ same-length-2 c = search needs
 returns : tie.Need-returns
 unfolding marksAfter
 returns c =
-    let f = c .before .before .before .before .before .before .before .before .before .fill-table in
-    let s = c .before .before .before .before .before .before .before .before .before .before .before .before .before in
-    let a = s .args in
-    let r = c .before .before .before .before .run-table .ensures in
-    let m = filled-machine (a .list) (a .log .now) _ _ (a .w) (s .pre) _ (f .last .1 .1 .0) (f .ensures) (omega (arith, length-replicate {A = ℕ} 8192 0)) in (
-      r .0 ∙ ap (λ (st : State). st .count) m,
-      ap (λ (x : List ℕ). x ++ drop (rowCount (a .log .now)) (a .marks .now)) (r .1 ∙ ap (λ (st : State). st .marks) m ∙ machine-best (a .list) (a .log .now) (a .w) (s .pre .some)),
+    let d = c .before .before .before .before .before .before .before .before .before .before in
+    let a = start d .args in
+    let r = c .before .before .before .before .run-rows .ensures in (
+      r .0 ∙ ap (λ (st : State). st .count) (runs d),
+      ap (λ (x : List ℕ). x ++ drop (rowCount (a .log .now)) (a .marks .now))
+          (r .1 ∙ ap (λ (st : State). st .marks) (runs d) ∙ machine-best (a .list) (a .log .now) (a .w) (start d .pre .some)),
     )
 
 pub run-accepted-spec : {M : Type 1} → statement M
@@ -73,12 +119,16 @@ run-accepted-spec =
     (tie.spec
     slice-aggregate-fill-table
     fill-table-requires
+    slice-aggregate-competing-rows
+    competing-rows-requires
     mul-table
     array-share-prefix-table
-    slice-aggregate-run-table
-    slice-relend-prefix-run-table
-    slice-aggregate-run-table-2
-    run-table-requires
+    slice-aggregate-run-rows
+    array-share-prefix-rows
+    slice-aggregate-run-rows-2
+    slice-relend-prefix-run-rows
+    slice-aggregate-run-rows-3
+    run-rows-requires
     cast-result
     same-length
     same-length-2

@@ -1,19 +1,18 @@
 -- The machine on a log: its marks are those of the log's best matches, its count fits 32 bits, and over the log's level table it is the same.
 use mathlib.Core.Path.{_≡_, refl, sym, ap, _∙_}
-use Prim.Native.Nat.{ℕ, zero, suc, _-_, _≤_, _<_}
+use Prim.Native.Nat.{ℕ, _-_, _≤_, _<_}
 use native.Mathlib.Omega.{arith}
 use native.Mathlib.Nat.{mul-le-mul}
 use mathlib.Core.Bool.{Bool, true, false, not, _&&_, cond}
-use mathlib.Core.List.{List, [], _∷_, List·Memᴰ, List·Memᴰ·not-nil, List·Memᴰ·append-cases, List·Memᴰ·eq-of-singleton}
-use mathlib.Core.Logic.{⊎-elim}
+use mathlib.Core.List.{List, [], _∷_}
 use lib.Dec.{eqb}
 use lib.IntN.{ℤ}
 use lib.ListN.{length}
 use borrow.Author.Tests.{eq-eqb, eqb-true}
-use Rattle.laws.specs.Lists.{joined, anyOf}
+use Rattle.laws.specs.Lists.{anyOf}
 use Rattle.laws.specs.Laws.AnyOf.{passing-found, passing-any}
 use Rattle.laws.specs.Laws.Bools.{false-true}
-use Rattle.laws.specs.Laws.Joined.{joined-cong, singles-length}
+use Rattle.laws.specs.Laws.Joined.{joined-cong}
 use Rattle.runs.specs.Log.{rowCount}
 use Rattle.preference.specs.Valid.{listNumber}
 use Rattle.preference.specs.declared.PreferenceList.{PreferenceList}
@@ -21,6 +20,7 @@ use Rattle.pareto.specs.Best.{competes, competing, vectorAt, rowDominates, isBe
 use Rattle.pareto.specs.Checked.{rowsNumber}
 use Rattle.pareto.specs.Table.{tableOf}
 use Rattle.pareto.specs.Laws.Best.{row-transitive}
+use Rattle.pareto.specs.Laws.Competing.{competing-few, competing-below}
 use Rattle.pareto.specs.Laws.Dominance.{dominates-irreflexive}
 use Rattle.pareto.specs.Laws.Table.{compared-dominates}
 use Rattle.machine.specs.Machine.{machine}
@@ -29,23 +29,8 @@ use Rattle.machine.specs.Laws.Ends.{count-bound}
 use Rattle.machine.specs.Laws.Marks.{undominated, machine-marks}
 use Rattle.bnl.specs.Engine.{machineOf}
 use Rattle.window.specs.Work.{tableDominates}
-use Rattle.passes.specs.Passes.{allRows}
-
-rows-below : (n r : ℕ) → List·Memᴰ r (allRows n) → r < n
-unfolding joined
-rows-below zero r k = absurd (List·Memᴰ·not-nil k)
-rows-below (suc n) r k =
-    ⊎-elim
-    (λ (k′ : List·Memᴰ r (allRows n)). omega (arith, rows-below n r k′))
-    (λ (k′ : List·Memᴰ r (n ∷ [])). omega (arith, List·Memᴰ·eq-of-singleton k′))
-    (List·Memᴰ·append-cases (allRows n) k)
 
 module _ (l : PreferenceList) (log : List ℤ) where
-  -- every run competes
-  all-compete : competing log ≡ allRows (rowCount log)
-  unfolding competing competes
-  all-compete = refl
-
   irreflexive : (r : ℕ) → rowDominates l log r r ≡ false
   unfolding rowDominates
   irreflexive r = go (rowDominates l log r r) refl
@@ -76,25 +61,22 @@ module _ (l : PreferenceList) (log : List ℤ) where
   pub machine-best : (w : ℕ) → 1 ≤ w → machineOf l log w .marks ≡ marksOf l log
   unfolding machineOf marksOf
   machine-best w pos =
-      machine-marks (rowDominates l log) (competing log) (rowCount log) (λ r k. rows-below (rowCount log) r (rw all-compete at k)) irreflexive (row-transitive l log) w pos
+      machine-marks (rowDominates l log) (competing log) (rowCount log) (competing-below log) irreflexive (row-transitive l log) w pos
       ∙ joined-cong _ _ (rowCount log) (λ r h. ap (λ (b : Bool). cond b 1 0 ∷ []) (best-is r h))
 
   -- the count fits 32 bits
   pub count-small : (w : ℕ) → 1 ≤ w → rowCount log ≤ 1024 → machineOf l log w .count < 4294967296
   unfolding machineOf
   count-small w pos few =
-      let n : length (competing log) ≡ rowCount log = rw all-compete (singles-length (λ (r : ℕ). r) (rowCount log)) in
-      let b = rw n at (count-bound (rowDominates l log) w (competing log) (rowCount log) pos) in
-      let d : rowCount log - 1 ≤ 1024 = omega arith in
-      omega (arith, b, mul-le-mul few d)
+      let n : length (competing log) ≤ 1024 = omega (arith, competing-few log) in
+      let d : length (competing log) - 1 ≤ 1024 = omega arith in
+      omega (arith, count-bound (rowDominates l log) w (competing log) (rowCount log) pos, mul-le-mul n d)
 
   module _ (e : listNumber l ≡ 0) (f : rowsNumber l log ≡ 0) where
     table-dominates : (a b : ℕ) → a < rowCount log → b < rowCount log → tableDominates (tableOf l log) a b ≡ rowDominates l log a b
     unfolding tableDominates
     table-dominates a b h j = compared-dominates l log e f a b h j
 
-    pub machine-table : (w : ℕ) → machine (tableDominates (tableOf l log)) w (allRows (rowCount log)) (rowCount log) ≡ machineOf l log w
+    pub machine-table : (w : ℕ) → machine (tableDominates (tableOf l log)) w (competing log) (rowCount log) ≡ machineOf l log w
     unfolding machineOf
-    machine-table w =
-        machine-agree (tableDominates (tableOf l log)) (rowDominates l log) w (rowCount log) table-dominates (allRows (rowCount log)) (rows-below (rowCount log))
-        ∙ rw all-compete
+    machine-table w = machine-agree (tableDominates (tableOf l log)) (rowDominates l log) w (rowCount log) table-dominates (competing log) (competing-below log)
