@@ -1,11 +1,12 @@
 use mathlib.Core.Path.{_≡_, sym, ap, _∙_}
 use mathlib.Core.Bool.{Bool}
 use mathlib.Core.List.{List, _++_}
-use Prim.Native.Nat.{ℕ, _≤_}
+use Prim.Native.Nat.{ℕ, _+_, _-_, _≤_}
 use native.Mathlib.Omega.{arith}
 use borrow.Author.Needs.{needs}
-use lib.ListN.{length, take, drop, replicate, length-append, length-replicate}
+use lib.ListN.{length, take, drop, replicate, length-append, length-replicate, replicate-append-replicate}
 use lib.Seq.{length-take-le, take-at}
+use Rattle.runs.specs.Log.{rowCount}
 use Rattle.runs.specs.Laws.Log.{accepted}
 use Rattle.preference.specs.declared.PreferenceList.{PreferenceList}
 use Rattle.nodes.specs.Lattice.{nodeCount}
@@ -16,8 +17,8 @@ use Rattle.lattice.specs.Numbers.{Weighed}
 use Rattle.lattice.proofs.walk_rows.Statement.{statement}
 use Rattle.lattice.proofs.walk_rows.Tie as tie
 
-abbrev zeros : List ℕ
-zeros = replicate 1024 0
+abbrev none : List ℕ
+none = replicate 1024 65535
 
 abbrev rows : tie.Start → ℕ
 rows s = length (s .args .marks .now)
@@ -25,8 +26,17 @@ rows s = length (s .args .marks .now)
 few : (s : tie.Start) → rows s ≤ 1024
 few s = omega (arith, accepted (s .args .log .now) (s .pre .1 .0) .few)
 
-front : (s : tie.Start) → length (take (rows s) zeros) ≡ rows s
-front s = length-take-le (rows s) zeros (omega (arith, few s, length-replicate {A = ℕ} 1024 0))
+front : (s : tie.Start) → length (take (rows s) none) ≡ rows s
+front s = length-take-le (rows s) none (omega (arith, few s, length-replicate {A = ℕ} 1024 65535))
+
+-- no row has a number yet
+unnumbered : (s : tie.Start) → take (rows s) none ≡ replicate (rowCount (s .args .log .now)) 65535
+unnumbered s =
+    let e : 1024 ≡ rows s + (1024 - rows s) = omega (arith, few s) in
+    ap (λ (n : ℕ). take (rows s) (replicate n 65535)) e
+    ∙ ap (take (rows s)) (sym (replicate-append-replicate (rows s) (1024 - rows s) 65535))
+    ∙ take-at (replicate (rows s) 65535) (replicate (1024 - rows s) 65535) (rows s) (length-replicate (rows s) 65535)
+    ∙ ap (λ (n : ℕ). replicate n 65535) (s .pre .1 .1 .1 .1)
 
 -- the node numbers
 abbrev numbers : tie.After-fill-numbers → List ℕ
@@ -38,8 +48,8 @@ start f = f .before .before .before .before .before
 numbers-long : (f : tie.After-fill-numbers) → length (numbers f) ≡ rows (start f)
 numbers-long f = f .fill-numbers .kept .1 .1 .1 .0 ∙ front (start f)
 
-numbers-front : (f : tie.After-fill-numbers) → take (rows (start f)) (numbers f ++ drop (rows (start f)) zeros) ≡ numbers f
-numbers-front f = take-at (numbers f) (drop (rows (start f)) zeros) (rows (start f)) (numbers-long f)
+numbers-front : (f : tie.After-fill-numbers) → take (rows (start f)) (numbers f ++ drop (rows (start f)) none) ≡ numbers f
+numbers-front f = take-at (numbers f) (drop (rows (start f)) none) (rows (start f)) (numbers-long f)
 
 -- what the engine promises, told of what its arguments are
 told : (w w′ x x′ : List ℕ) (n n′ budget : ℕ) (marks : List ℕ) (ok : Bool) (made : ℕ) (marks′ nodes′ : List ℕ) → w ≡ w′ → x ≡ x′ → n ≡ n′
@@ -63,7 +73,7 @@ slice-aggregate-fill-numbers c = sym (front (c .before .before .before .before))
 fill-numbers-requires : tie.Need-fill-numbers-requires
 fill-numbers-requires c κs =
     let s = c .before .before .before .before in
-    (s .pre .0, (s .pre .1 .0, (s .pre .1 .1 .0, front s ∙ s .pre .1 .1 .1 .1)))
+    (s .pre .0, (s .pre .1 .0, (s .pre .1 .1 .0, unnumbered s)))
 
 array-share-prefix-numbers : tie.Need-array-share-prefix-numbers
 array-share-prefix-numbers c = rw (length-append (numbers (c .before))) (omega (arith, numbers-long (c .before)))
