@@ -29,7 +29,7 @@ unfoldable pub machineOf : PreferenceList → List ℤ → ℕ → State
 machineOf l log w = machine (rowDominates l log) w (competing log) (rowCount log)
 
 -- the number or the value that an answer stands for
-abbrev pub outcomeOf : WindowAnswer → Outcome
+abbrev pub outcomeOf : WindowAnswer → Outcome ℕ
 outcomeOf (Compared n) = accepted n
 outcomeOf (Refused k) = refused k
 

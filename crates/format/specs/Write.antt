@@ -79,6 +79,6 @@ unfoldable pub outAfter : PreferenceList → List ℤ → List ℕ → List ℕ
 outAfter l log out = cond (eqb (writeNumber l log (length out)) 0) (sets out 0 (streamOf l log)) out
 
 -- the length or the number that an answer stands for
-abbrev pub outcomeOf : WriteAnswer → Outcome
+abbrev pub outcomeOf : WriteAnswer → Outcome ℕ
 outcomeOf (Written n) = accepted n
 outcomeOf (Refused k) = refused k

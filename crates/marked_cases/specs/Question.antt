@@ -27,7 +27,7 @@ pub data Question : Type 0 where
   windowCalled : PreferenceList → List ℤ → ℕ → ℕ → ℕ → Question
 
 pub data Answer : Type 0 where
-  ends : Outcome → Answer
+  ends : Outcome ℕ → Answer
   figure : ℕ → Answer
   figures : List ℕ → Answer
 

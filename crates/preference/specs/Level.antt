@@ -49,6 +49,6 @@ unfoldable pub levelNumber : PreferenceList → ℕ → ℤ → ℕ
 levelNumber l i v = listNumber l then leb (l .count) i gives 10 then valueNumber l i v
 
 -- the number or the value that an answer stands for
-abbrev pub outcomeOf : LevelAnswer → Outcome
+abbrev pub outcomeOf : LevelAnswer → Outcome ℕ
 outcomeOf (Level n) = accepted n
 outcomeOf (Refused k) = refused k

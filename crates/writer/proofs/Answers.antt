@@ -21,7 +21,7 @@ module _ (l : PreferenceList) (log : List ℤ) (out : List ℕ) where
   abbrev room : ℕ
   room = ltb (length out) (length (streamOf l log)) gives 10
 
-  abbrev pub Due : Outcome → List ℕ → Type 0
+  abbrev pub Due : Outcome ℕ → List ℕ → Type 0
   Due o last = (o ≡ outcome (writeNumber l log (length out)) (length (streamOf l log))) × (last ≡ outAfter l log out)
 
   refusal : (k : ℕ) → writeNumber l log (length out) ≡ k → (k ≡ 0 → ⊥) → Due (refused k) out
