@@ -99,7 +99,7 @@ pub fn fill_table(list: PreferenceList, log: &[i32], table: &mut [u16])
 {
     let mut k: usize = 0;
     while k < 8 {
-        parts::fill_part(list, log, k, table);
+        parts::fill_part(list, log, k, k, table);
         k += 1;
     }
 }

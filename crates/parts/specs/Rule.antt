@@ -12,7 +12,7 @@ use Rattle.preference.specs.List.{preferenceAt}
 use Rattle.preference.specs.Level.{layerOf}
 use Rattle.runs.specs.Log.{rowAt}
 use Rattle.preference.specs.Names.{among}
-use Rattle.preference.specs.Parts.{levels, maxLevels}
+use Rattle.preference.specs.Parts.{levels, maxLevels, partOf}
 use Rattle.preference.specs.declared.Preference.{Preference}
 use Rattle.preference.specs.declared.PreferenceList.{PreferenceList}
 use Rattle.parts.specs.declared.Rule.{Rule}
@@ -32,17 +32,17 @@ zeroRule = record { column = 0; low = pos 0; up = pos 0; step = 0; layering = Nu
 
 -- the rule of part k
 unfoldable pub ruleOf : PreferenceList → ℕ → Rule
-ruleOf l k = cond (leb (length (maxLevels l)) k) zeroRule (ruleFor (preferenceAt l k))
+ruleOf l k = cond (leb (length (maxLevels l)) k) zeroRule (ruleFor (preferenceAt l (partOf l k .place)))
 
 -- part k is a layer, and others the layer of other values
 pub record Layered (l : PreferenceList) (k others : ℕ) : Type 0 where
-  pub level : (row : List ℤ) → layerOf l k (getD row (ruleOf l k .column) (pos 0)) others ≡ getD (levels l row) k 0
+  pub level : (row : List ℤ) → layerOf l (partOf l k .place) (getD row (ruleOf l k .column) (pos 0)) others ≡ getD (levels l row) k 0
 
 -- the layer of row r among named values, in 16 bits
 abbrev pub rowLayer : List ℤ → List ℕ → ℕ → ℕ → List ℤ → ℕ → ℕ → ℕ
 rowLayer values layers count others log column r = among values layers count (getD (rowAt log r) column (pos 0)) others % 65536
 
--- m of n rows are those of which part k has a place in a table
+-- m of n rows are those that have column k of a table
 pub record RowsIn (n table k m : ℕ) : Type 0 where
   pub few : m ≤ n
   pub within : (r : ℕ) → r < m → 8 * r + k < table

@@ -11,7 +11,7 @@ use Rattle.preference.specs.declared.PreferenceList.{PreferenceList}
 abbrev pub partAt : PreferenceList → List ℤ → ℕ → ℕ → ℕ
 partAt l log k r = getD (levels l (rowAt log r)) k 0 % 65536
 
--- a table, eight places to a row, with part k of its first n rows set to f 0, .., f (n - 1)
+-- a table, eight places to a row, with column k of its first n rows set to f 0, .., f (n - 1)
 unfoldable pub withPart : (ℕ → ℕ) → ℕ → ℕ → List ℕ → List ℕ
 withPart f k zero table = table
 withPart f k (suc n) table = set (withPart f k n table) (8 * n + k) (f n)

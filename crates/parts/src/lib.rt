@@ -31,7 +31,9 @@ fn rule_of(list: PreferenceList, k: usize) -> Rule
             layering: Layering::Numeric,
         };
     }
-    let p = list.preferences[k];
+    let at = preference::part_at(list, k);
+    let place = at.place;
+    let p = list.preferences[place];
     let column = p.column;
     let c = p.constructor;
     let t = constructor::target_of(c);
@@ -48,7 +50,7 @@ fn rule_of(list: PreferenceList, k: usize) -> Rule
     }
 }
 
-// The rows of a log of which part k has a place in a table.
+// The rows of a log that have column k of a table.
 fn rows_in(log: usize, table: usize, k: usize) -> usize
     ensures { λ r. ⌜ RowsIn (log / 8) table k r ⌝ }
 {
@@ -70,27 +72,27 @@ fn value_at(log: &[i32], r: usize, column: usize) -> i32
     preference::value_in(&log[start..end], column)
 }
 
-// Part k of a form that goes by distance: for each row a value, two differences, a division and a store.
-fn fill_distances(list: PreferenceList, log: &[i32], k: usize, table: &mut [u16])
+// Part k of a form that goes by distance, into a column of a table: for each row a value, two differences, a division and a store.
+fn fill_distances(list: PreferenceList, log: &[i32], k: usize, into: usize, table: &mut [u16])
     requires { ⌜ ruleOf list k .layering ≡ Layering.Numeric ⌝ }
-    ensures { λ _. ⌜ now (table .exit) ≡ withPart (partAt list (now (log .entry)) k) k (length (now (log .entry)) / 8) (now (table .entry)) ⌝ }
+    ensures { λ _. ⌜ now (table .exit) ≡ withPart (partAt list (now (log .entry)) k) into (length (now (log .entry)) / 8) (now (table .entry)) ⌝ }
 {
     let rule = rule_of(list, k);
     let column = rule.column;
     let low = rule.low;
     let up = rule.up;
     let step = rule.step;
-    let n = rows_in(log.len(), table.len(), k);
+    let n = rows_in(log.len(), table.len(), into);
     let mut r: usize = 0;
     while r < n {
         let v = value_at(log, r, column);
         let level = constructor::level_outside(low, up, step, v);
-        table[8 * r + k] = (level % 65536) as u16;
+        table[8 * r + into] = (level % 65536) as u16;
         r += 1;
     }
 }
 
-// Part k from named values and their layers.
+// A column of a table from named values and their layers.
 fn fill_named(
     values: &[i32],
     layers: &[u8],
@@ -98,43 +100,51 @@ fn fill_named(
     others: u8,
     log: &[i32],
     column: usize,
-    k: usize,
+    into: usize,
     table: &mut [u16],
 )
-    ensures { λ _. ⌜ now (table .exit) ≡ withPart (rowLayer (now (values .entry)) (now (layers .entry)) count others (now (log .entry)) column) k (length (now (log .entry)) / 8) (now (table .entry)) ⌝ }
+    ensures { λ _. ⌜ now (table .exit) ≡ withPart (rowLayer (now (values .entry)) (now (layers .entry)) count others (now (log .entry)) column) into (length (now (log .entry)) / 8) (now (table .entry)) ⌝ }
 {
-    let n = rows_in(log.len(), table.len(), k);
+    let n = rows_in(log.len(), table.len(), into);
     let mut r: usize = 0;
     while r < n {
         let v = value_at(log, r, column);
         let layer = preference::layer_among(values, layers, count, v, others);
-        table[8 * r + k] = layer as u16;
+        table[8 * r + into] = layer as u16;
         r += 1;
     }
 }
 
-// Part k of a form with layers.
-fn fill_layers(list: PreferenceList, log: &[i32], k: usize, others: u8, table: &mut [u16])
+// Part k of a form with layers, into a column of a table.
+fn fill_layers(
+    list: PreferenceList,
+    log: &[i32],
+    k: usize,
+    into: usize,
+    others: u8,
+    table: &mut [u16],
+)
     requires { ⌜ Layered list k others ⌝ }
-    ensures { λ _. ⌜ now (table .exit) ≡ withPart (partAt list (now (log .entry)) k) k (length (now (log .entry)) / 8) (now (table .entry)) ⌝ }
+    ensures { λ _. ⌜ now (table .exit) ≡ withPart (partAt list (now (log .entry)) k) into (length (now (log .entry)) / 8) (now (table .entry)) ⌝ }
 {
     let rule = rule_of(list, k);
     let column = rule.column;
-    let names = preference::names_of(list, k);
+    let at = preference::part_at(list, k);
+    let names = preference::names_of(list, at.place);
     let values = names.values;
     let layers = names.layers;
     let count = names.count;
-    fill_named(&values, &layers, count, others, log, column, k, table);
+    fill_named(&values, &layers, count, others, log, column, into, table);
 }
 
-// Sets part k of the rows of a table, eight places to a row, to part k of the level vectors of a log, in 16 bits.
-pub fn fill_part(list: PreferenceList, log: &[i32], k: usize, table: &mut [u16])
-    ensures { λ _. ⌜ now (table .exit) ≡ withPart (partAt list (now (log .entry)) k) k (length (now (log .entry)) / 8) (now (table .entry)) ⌝ }
+// Sets a column of a table, eight places to a row, to part k of the level vectors of a log, in 16 bits.
+pub fn fill_part(list: PreferenceList, log: &[i32], k: usize, into: usize, table: &mut [u16])
+    ensures { λ _. ⌜ now (table .exit) ≡ withPart (partAt list (now (log .entry)) k) into (length (now (log .entry)) / 8) (now (table .entry)) ⌝ }
 {
     let rule = rule_of(list, k);
     let y = rule.layering;
     match y {
-        Layering::Numeric => fill_distances(list, log, k, table),
-        Layering::Layers { top: _, others } => fill_layers(list, log, k, others, table),
+        Layering::Numeric => fill_distances(list, log, k, into, table),
+        Layering::Layers { top: _, others } => fill_layers(list, log, k, into, others, table),
     }
 }

@@ -1,14 +1,15 @@
 -- What the engines know of a preference list: the level vector of a run and the greatest level of each of its parts
 -- (document 01: "The engines know a wish only by its level and its M"). A preference gives a list of parts, here of one.
-use Prim.Native.Nat.{ℕ}
+use Prim.Native.Nat.{ℕ, _-_}
 use mathlib.Core.List.{List, [], _∷_}
 use lib.IntN.{ℤ, pos}
-use lib.ListN.{getD}
+use lib.ListN.{getD, length}
 use Rattle.laws.specs.First.{firstNumber}
-use Rattle.laws.specs.Lists.{joined}
+use Rattle.laws.specs.Lists.{joined, listWith}
 use Rattle.preference.specs.List.{preferenceAt, places}
 use Rattle.preference.specs.Level.{levelAt, maxAt, valueNumber}
 use Rattle.preference.specs.declared.PreferenceList.{PreferenceList}
+use Rattle.preference.specs.declared.PartAt.{PartAt}
 
 -- the value of a run in the column of the preference at place i; values past the run's end read as 0
 abbrev pub rowValue : PreferenceList → List ℤ → ℕ → ℤ
@@ -28,6 +29,15 @@ levels l row = joined (levelParts l row) (places l)
 -- the greatest level of each part of a level vector
 unfoldable pub maxLevels : PreferenceList → List ℕ
 maxLevels l = joined (maxParts l) (places l)
+
+-- where part k of the level vectors is found: part `half` of the preference at `place`. Past the last part, the place is the first that the list does
+-- not hold, and half says how far past the last k is.
+unfoldable pub partOf : PreferenceList → ℕ → PartAt
+partOf l k =
+    record {
+      place = listWith (maxParts l) (places l) k;
+      half = k - length (joined (maxParts l) (listWith (maxParts l) (places l) k));
+    }
 
 -- 8 for a run: one of its values lies outside the bounds of its preference
 unfoldable pub rowNumber : PreferenceList → List ℤ → ℕ

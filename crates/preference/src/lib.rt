@@ -15,7 +15,7 @@ ghost use Rattle.laws.specs.Outcome.{outcome};
 ghost use Rattle.preference.specs.List.{preferenceAt, places, names};
 ghost use Rattle.preference.specs.Valid.{taken, columnNumber, preferenceNumber, placeNumber, namedNumber, listNumber};
 ghost use Rattle.preference.specs.Level.{layerOf, levelAt, valueNumber, levelNumber, outcomeOf};
-ghost use Rattle.preference.specs.Parts.{levels, maxLevels, rowNumber};
+ghost use Rattle.preference.specs.Parts.{levels, maxLevels, partOf, rowNumber};
 ghost use Rattle.preference.specs.Names.{among, NamesOf};
 
 // A wish: the column that it is about, and its form.
@@ -51,6 +51,12 @@ pub struct Names {
     pub count: usize,
     pub values: [i32; 64],
     pub layers: [u8; 64],
+}
+
+// Where a part of the level vectors is found: the place of its preference, and which of the preference's parts it is.
+pub struct PartAt {
+    pub place: usize,
+    pub half: usize,
 }
 
 // ---- the check of a list
@@ -357,25 +363,42 @@ pub fn parts(list: PreferenceList) -> usize
     held_places(list)
 }
 
+// The preference that part k of the level vectors belongs to. Each has one part.
+pub fn part_at(list: PreferenceList, k: usize) -> PartAt
+    ensures { λ r. ⌜ r ≡ partOf list k ⌝ }
+{
+    let n = held_places(list);
+    if n <= k {
+        return PartAt {
+            place: n,
+            half: k - n,
+        };
+    }
+    PartAt { place: k, half: 0 }
+}
+
 // Part k of the level vector of a run; 0 past the last.
 pub fn part_level(list: PreferenceList, row: &[i32], k: usize) -> u64
     ensures { λ r. ⌜ r ≡ getD (levels list (now (row .entry))) k 0 ⌝ }
 {
-    if held_places(list) <= k {
+    if parts(list) <= k {
         return 0;
     }
-    let p = list.preferences[k];
-    level_at(list, k, run_value(p, row))
+    let at = part_at(list, k);
+    let place = at.place;
+    let p = list.preferences[place];
+    level_at(list, place, run_value(p, row))
 }
 
 // The greatest level of part k; 0 past the last.
 pub fn part_max(list: PreferenceList, k: usize) -> u64
     ensures { λ r. ⌜ r ≡ getD (maxLevels list) k 0 ⌝ }
 {
-    if held_places(list) <= k {
+    if parts(list) <= k {
         return 0;
     }
-    let c = constructor_at(list, k);
+    let at = part_at(list, k);
+    let c = constructor_at(list, at.place);
     constructor::max_level(c)
 }
 

@@ -17,14 +17,14 @@ use Rattle.parts.proofs.fill_distances.Statement.{statement}
 use Rattle.parts.proofs.fill_distances.Tie as tie
 
 abbrev Inv-loop : tie.InvT-loop
-Inv-loop log k table₀ column low up step n r₀ table r =
+Inv-loop log k into table₀ column low up step n r₀ table r =
     (r ≤ n)
-    × RowsIn (length log / 8) (length table₀) k n
+    × RowsIn (length log / 8) (length table₀) into n
     × (length table ≡ length table₀)
-    × ((l : PreferenceList) → Ruled l k column (toZ w32 low) (toZ w32 up) step → table ≡ withPart (partAt l log k) k r table₀)
+    × ((l : PreferenceList) → Ruled l k column (toZ w32 low) (toZ w32 up) step → table ≡ withPart (partAt l log k) into r table₀)
 
 abbrev μ-loop : tie.MeasureT-loop
-μ-loop log k table₀ column low up step n r₀ table r = n - r
+μ-loop log k into table₀ column low up step n r₀ table r = n - r
 
 rule-of-requires : tie.Need-rule-of-requires Inv-loop μ-loop
 rule-of-requires c κs = search needs
@@ -78,10 +78,10 @@ loop-again c =
     let row = rowAt (a .log .now) (d .loop .r) in (
       search needs,
       d .loop .inv .1,
-      length-set (d .loop .table) (8 * d .loop .r + a .k) (c .level-outside .result % 65536) ∙ d .loop .inv .2,
+      length-set (d .loop .table) (8 * d .loop .r + a .into) (c .level-outside .result % 65536) ∙ d .loop .inv .2,
       λ l h.
           let e = rw (num (v .result) (v .ok)) at (c .level-outside .ensures) ∙ ruled-level l (a .k) _ _ _ _ h row (v .result) (v .ensures) (v .ok) in
-          rw (e, d .loop .inv .3 l h) (with-part-more (partAt l (a .log .now) (a .k)) (a .k) (a .table .now) (d .loop .r)),
+          rw (e, d .loop .inv .3 l h) (with-part-more (partAt l (a .log .now) (a .k)) (a .into) (a .table .now) (d .loop .r)),
     )
 
 same-length : tie.Need-same-length Inv-loop μ-loop
@@ -103,7 +103,7 @@ returns c =
       step-is = ap (λ (r : Rule). r .step) (sym (x .ensures));
     } in
     d .loop .inv .3 (a .list) h
-    ∙ rw e (with-part-end (partAt (a .list) (a .log .now) (a .k)) (a .k) (a .table .now) (length (a .log .now) / 8) (d .before .rows-in .result) (d .loop .inv .1))
+    ∙ rw e (with-part-end (partAt (a .list) (a .log .now) (a .k)) (a .into) (a .table .now) (length (a .log .now) / 8) (d .before .rows-in .result) (d .loop .inv .1))
 
 pub fill-distances-spec : {M : Type 1} → statement M
 fill-distances-spec =

@@ -12,14 +12,14 @@ use Rattle.parts.proofs.fill_named.Statement.{statement}
 use Rattle.parts.proofs.fill_named.Tie as tie
 
 abbrev Inv-loop : tie.InvT-loop
-Inv-loop values layers count others log column k table₀ n r₀ table r =
+Inv-loop values layers count others log column into table₀ n r₀ table r =
     (r ≤ n)
-    × RowsIn (length log / 8) (length table₀) k n
+    × RowsIn (length log / 8) (length table₀) into n
     × (length table ≡ length table₀)
-    × (table ≡ withPart (rowLayer values layers count others log column) k r table₀)
+    × (table ≡ withPart (rowLayer values layers count others log column) into r table₀)
 
 abbrev μ-loop : tie.MeasureT-loop
-μ-loop values layers count others log column k table₀ n r₀ table r = n - r
+μ-loop values layers count others log column into table₀ n r₀ table r = n - r
 
 rows-in-requires : tie.Need-rows-in-requires Inv-loop μ-loop
 rows-in-requires c κs = search needs
@@ -72,8 +72,8 @@ loop-again c =
     let q : c .layer-among .result ≡ f (d .loop .r) = sym (mod-eq-of-lt small) ∙ ap (λ (n : ℕ). n % 65536) e in (
       search needs,
       d .loop .inv .1,
-      length-set (d .loop .table) (8 * d .loop .r + a .k) (c .layer-among .result) ∙ d .loop .inv .2,
-      rw (q, d .loop .inv .3) (with-part-more f (a .k) (a .table .now) (d .loop .r)),
+      length-set (d .loop .table) (8 * d .loop .r + a .into) (c .layer-among .result) ∙ d .loop .inv .2,
+      rw (q, d .loop .inv .3) (with-part-more f (a .into) (a .table .now) (d .loop .r)),
     )
 
 same-length : tie.Need-same-length Inv-loop μ-loop
@@ -86,7 +86,7 @@ returns c =
     let f = rowLayer (a .values .now) (a .layers .now) (a .count) (a .others) (a .log .now) (a .column) in
     let e : d .loop .r ≡ d .before .rows-in .result = omega arith in
     d .loop .inv .3
-    ∙ rw e (with-part-end f (a .k) (a .table .now) (length (a .log .now) / 8) (d .before .rows-in .result) (d .loop .inv .1))
+    ∙ rw e (with-part-end f (a .into) (a .table .now) (length (a .log .now) / 8) (d .before .rows-in .result) (d .loop .inv .1))
 
 pub fill-named-spec : {M : Type 1} → statement M
 fill-named-spec =

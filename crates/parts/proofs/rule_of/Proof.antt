@@ -1,11 +1,22 @@
+use Prim.Native.Nat.{_<_}
+use lib.ListN.{length}
 use borrow.Author.Tests.{le-leb, lt-leb}
 use native.Mathlib.Omega.{arith}
 use borrow.Author.Needs.{needs}
-use Rattle.preference.specs.Laws.Parts.{parts-few}
+use Rattle.preference.specs.Parts.{maxLevels}
+use Rattle.preference.specs.Laws.Parts.{part-place}
 use Rattle.arith.specs.Laws.Local.{num}
 use Rattle.parts.specs.Rule.{ruleOf}
 use Rattle.parts.proofs.rule_of.Statement.{statement}
 use Rattle.parts.proofs.rule_of.Tie as tie
+
+-- k is that of a part, whose preference is held
+module _ (p : tie.After-part-at) where
+  held : p .before .before .before .args .k < length (maxLevels (p .before .before .before .args .t1))
+  held = rw (p .before .before .parts .ensures) at (p .before .if1 .left)
+
+  inside : p .part-at .result .place < 8
+  inside = rw (p .part-at .ensures) (omega (arith, part-place (p .before .before .before .args .t1) (p .before .before .before .args .k) held))
 
 parts-requires : tie.Need-parts-requires
 parts-requires c κs = search needs
@@ -14,11 +25,14 @@ returns : tie.Need-returns
 unfolding ruleOf
 returns c = rw (le-leb _ _ (rw (c .before .parts .ensures) at (c .if1 .taken)))
 
+part-at-requires : tie.Need-part-at-requires
+part-at-requires c κs = search needs
+
 mul-p : tie.Need-mul-p
-mul-p c = omega (arith, parts-few (c .before .before .args .t1))
+mul-p c = omega (arith, inside c)
 
 element-copy-out-p : tie.Need-element-copy-out-p
-element-copy-out-p c = omega (arith, parts-few (c .before .before .args .t1))
+element-copy-out-p c = omega (arith, inside c)
 
 target-of-requires : tie.Need-target-of-requires
 target-of-requires c κs = search needs
@@ -36,10 +50,11 @@ returns-2 : tie.Need-returns-2
 unfolding ruleOf
 returns-2 c =
     let g = c .before .before .before .before .before in
-    let b = g .before .before in
+    let p = g .before .before in
     let k = c .before .before .before .before .struct-told .given in
     rw (
-      lt-leb _ _ (rw (b .before .parts .ensures) at (b .if1 .left)),
+      lt-leb _ _ (held p),
+      ← p .part-at .ensures,
       c .wide .ensures,
       c .before .layering-of .ensures,
       c .before .before .scale-of .ensures,
@@ -54,6 +69,7 @@ rule-of-spec =
     (tie.spec
     parts-requires
     returns
+    part-at-requires
     mul-p
     element-copy-out-p
     target-of-requires

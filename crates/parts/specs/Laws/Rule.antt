@@ -17,8 +17,8 @@ use Rattle.constructor.specs.Laws.Target.{distance-outside}
 use Rattle.constructor.specs.declared.Layering.the-variants.{Numeric, Layers}
 use Rattle.preference.specs.List.{preferenceAt, constructorAt}
 use Rattle.preference.specs.Level.{layerOf, levelAt}
-use Rattle.preference.specs.Laws.Parts.{parts-held, part-held, part-past}
-use Rattle.preference.specs.Parts.{levels, rowValue, maxLevels}
+use Rattle.preference.specs.Laws.Parts.{level-held, level-past}
+use Rattle.preference.specs.Parts.{levels, rowValue, maxLevels, partOf}
 use Rattle.parts.specs.Rule.{zeroRule, ruleFor, ruleOf}
 use Rattle.preference.specs.declared.PreferenceList.{PreferenceList}
 
@@ -31,11 +31,15 @@ unfolding levelAt
 layers-at l i v top others y = rw y
 
 module _ (l : PreferenceList) (row : List ℤ) (k : ℕ) where
+  -- the place of its preference
+  abbrev place : ℕ
+  place = partOf l k .place
+
   rule-past : leb (length (maxLevels l)) k ≡ true → ruleOf l k ≡ zeroRule
   unfolding ruleOf
   rule-past e = rw e
 
-  rule-held : leb (length (maxLevels l)) k ≡ false → ruleOf l k ≡ ruleFor (preferenceAt l k)
+  rule-held : leb (length (maxLevels l)) k ≡ false → ruleOf l k ≡ ruleFor (preferenceAt l place)
   unfolding ruleOf
   rule-held e = rw e
 
@@ -45,22 +49,22 @@ module _ (l : PreferenceList) (row : List ℤ) (k : ℕ) where
   rule-numeric y v e h = go (leb (length (maxLevels l)) k) refl
     where
       go : (t : Bool) → leb (length (maxLevels l)) k ≡ t → ceilDiv (gap (ruleOf l k .low) v + gap v (ruleOf l k .up)) (ruleOf l k .step) ≡ getD (levels l row) k 0
-      go true b = rw (rule-past b) (ceil-zero (gap (pos 0) v + gap v (pos 0)) ∙ sym (part-past l row k (rw (parts-held l) at (leb-true (length (maxLevels l)) k b))))
+      go true b = rw (rule-past b) (ceil-zero (gap (pos 0) v + gap v (pos 0)) ∙ sym (level-past l row k (leb-true (length (maxLevels l)) k b)))
       go false b =
           let f = rule-held b in
-          let c = constructorAt l k in
+          let c = constructorAt l place in
           rw (f, distance-outside c v h)
-          (ap (numericLevel c) (rw f at e) ∙ sym (part-held l row k (rw (parts-held l) at (leb-false (length (maxLevels l)) k b)) ∙ numeric-at l k (rowValue l row k) (rw f at y)))
+          (ap (numericLevel c) (rw f at e) ∙ sym (level-held l k (leb-false (length (maxLevels l)) k b) row ∙ numeric-at l place (rowValue l row place) (rw f at y)))
 
   -- by layers
-  pub rule-layers : (top others : ℕ) → ruleOf l k .layering ≡ Layers top others → layerOf l k (getD row (ruleOf l k .column) (pos 0)) others ≡ getD (levels l row) k 0
+  pub rule-layers : (top others : ℕ) → ruleOf l k .layering ≡ Layers top others → layerOf l place (getD row (ruleOf l k .column) (pos 0)) others ≡ getD (levels l row) k 0
   rule-layers top others y = go (leb (length (maxLevels l)) k) refl
     where
-      go : (t : Bool) → leb (length (maxLevels l)) k ≡ t → layerOf l k (getD row (ruleOf l k .column) (pos 0)) others ≡ getD (levels l row) k 0
+      go : (t : Bool) → leb (length (maxLevels l)) k ≡ t → layerOf l place (getD row (ruleOf l k .column) (pos 0)) others ≡ getD (levels l row) k 0
       go true b = let q : Numeric ≡ Layers top others = rw (rule-past b) at y in let z : _≡_ {A = ℕ} 0 1 = cc in absurd (omega arith)
       go false b =
           let f = rule-held b in
-          rw f (sym (part-held l row k (rw (parts-held l) at (leb-false (length (maxLevels l)) k b)) ∙ layers-at l k (rowValue l row k) top others (rw f at y)))
+          rw f (sym (level-held l k (leb-false (length (maxLevels l)) k b) row ∙ layers-at l place (rowValue l row place) top others (rw f at y)))
 
 -- part k goes by distance, with the figures of its rule
 pub record Ruled (l : PreferenceList) (k column : ℕ) (low up : ℤ) (step : ℕ) : Type 0 where

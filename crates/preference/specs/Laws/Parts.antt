@@ -1,22 +1,23 @@
 -- What the engines rest on: all level vectors of a list have one length, and under an accepted list the levels of a run that is
 -- not refused by 8 are at most the greatest levels, which are at most 65,535.
-use mathlib.Core.Path.{_≡_, refl}
-use Prim.Native.Nat.{ℕ, zero, suc, _+_, _<_, _≤_}
+use mathlib.Core.Path.{_≡_, refl, ap, _∙_}
+use Prim.Native.Nat.{ℕ, zero, suc, _-_, _<_, _≤_, min}
 use native.Mathlib.Omega.{arith}
 use native.Mathlib.Nat.{min-le-right}
 use mathlib.Core.List.{List, [], _∷_, _++_}
 use lib.IntN.{ℤ}
-use lib.ListN.{getD, length, length-append}
+use lib.ListN.{getD, length, List·getD-eq-default}
 use Rattle.laws.specs.Laws.First.{number-zero}
 use Rattle.preference.specs.List.{places}
 use Rattle.preference.specs.Valid.{listNumber}
 use Rattle.preference.specs.Level.{levelAt, maxAt, valueNumber}
-use Rattle.preference.specs.Parts.{rowValue, levelParts, maxParts, levels, maxLevels, rowNumber}
+use Rattle.preference.specs.Parts.{rowValue, levelParts, maxParts, levels, maxLevels, partOf, rowNumber}
 use Rattle.laws.specs.Lists.{joined}
-use Rattle.laws.specs.Laws.Joined.{singles-length, singles-at, singles-past}
+use Rattle.laws.specs.Laws.Joined.{joined-length, list-held, list-at, singles-length, singles-with}
 use Rattle.preference.specs.Laws.Level.{level-most, max-small}
 use Rattle.preference.specs.Laws.Valid.{accepted, places-counted}
 use Rattle.preference.specs.declared.PreferenceList.{PreferenceList}
+use Rattle.preference.specs.declared.PartAt.{PartAt}
 
 -- each level is at most the greatest of its part, and there is one for each part
 abbrev pub Within : List ℕ → List ℕ → Type 0
@@ -43,12 +44,6 @@ at-most-at b (m ∷ ms) h zero = h .0
 at-most-at b (m ∷ ms) h (suc k) = at-most-at b ms (h .1) k
 
 -- ---- lists put together from lists
-
-joined-length : (f g : ℕ → List ℕ) (n : ℕ) → ((i : ℕ) → length (f i) ≡ length (g i)) → length (joined f n) ≡ length (joined g n)
-unfolding joined
-joined-length f g zero h = refl
-joined-length f g (suc n) h =
-    rw (length-append (joined f n) (f n), length-append (joined g n) (g n), joined-length f g n h, h n)
 
 within-append : (ms ls ns ks : List ℕ) → Within ms ls → Within ns ks → Within (ms ++ ns) (ls ++ ks)
 within-append [] [] ns ks h k = k
@@ -77,23 +72,47 @@ pub levels-length : (l : PreferenceList) (row : List ℤ) → length (levels l r
 unfolding levels maxLevels
 levels-length l row = joined-length (levelParts l row) (maxParts l) (places l) (λ i. refl)
 
--- a part for each preference that is held
+-- where part k is found, among the parts
+module _ (l : PreferenceList) (k : ℕ) (h : k < length (maxLevels l)) where
+  pub part-place : partOf l k .place < places l
+  unfolding partOf maxLevels
+  part-place = list-held (maxParts l) k (places l) h
+
+  pub part-level : (row : List ℤ) → getD (levels l row) k 0 ≡ getD (levelParts l row (partOf l k .place)) (partOf l k .half) 0
+  unfolding partOf levels maxLevels
+  part-level row = list-at (maxParts l) k (levelParts l row) (λ i. refl) (places l) h
+
+  pub part-max : getD (maxLevels l) k 0 ≡ getD (maxParts l (partOf l k .place)) (partOf l k .half) 0
+  unfolding partOf maxLevels
+  part-max = list-at (maxParts l) k (maxParts l) (λ i. refl) (places l) h
+
+-- past the last part
+pub level-past : (l : PreferenceList) (row : List ℤ) (k : ℕ) → length (maxLevels l) ≤ k → getD (levels l row) k 0 ≡ 0
+level-past l row k h = List·getD-eq-default (levels l row) 0 (rw (levels-length l row) h)
+
+-- ---- one part for each preference
+
 pub parts-held : (l : PreferenceList) → length (maxLevels l) ≡ places l
 unfolding maxLevels
 parts-held l = singles-length (maxAt l) (places l)
 
+pub part-single : (l : PreferenceList) (k : ℕ) → partOf l k ≡ record { place = min k (places l); half = k - min k (places l) }
+unfolding partOf
+part-single l k = rw (singles-with (maxAt l) (places l) k, singles-length (maxAt l) (min k (places l)))
+
 pub parts-few : (l : PreferenceList) → length (maxLevels l) ≤ 8
 parts-few l = omega (arith, parts-held l, min-le-right (l .count) 8)
 
-module _ (l : PreferenceList) (row : List ℤ) (k : ℕ) where
-  -- a part that is held is the level under its preference, and one past the last is 0
-  pub part-held : k < places l → getD (levels l row) k 0 ≡ levelAt l k (rowValue l row k)
-  unfolding levels
-  part-held h = singles-at (λ i. levelAt l i (rowValue l row i)) (places l) k h
+-- it is the level under its preference, and its greatest level is the preference's
+module _ (l : PreferenceList) (k : ℕ) (h : k < length (maxLevels l)) where
+  half-none : partOf l k .half ≡ 0
+  half-none = ap (λ (p : PartAt). p .half) (part-single l k) ∙ omega (arith, parts-held l)
 
-  pub part-past : places l ≤ k → getD (levels l row) k 0 ≡ 0
-  unfolding levels
-  part-past h = singles-past (λ i. levelAt l i (rowValue l row i)) (places l) k h
+  pub level-held : (row : List ℤ) → getD (levels l row) k 0 ≡ levelAt l (partOf l k .place) (rowValue l row (partOf l k .place))
+  level-held row = part-level l k h row ∙ rw half-none
+
+  pub max-held : getD (maxLevels l) k 0 ≡ maxAt l (partOf l k .place)
+  max-held = part-max l k h ∙ rw half-none
 
 -- ---- an accepted list
 
