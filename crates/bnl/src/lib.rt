@@ -40,11 +40,12 @@ fn run_accepted(
 {
     let n = log.len() / 8;
     let mut table = [0u16; 8192];
-    pareto::fill_table(list, log, &mut table);
+    let length = pareto::table_length(list, log);
+    pareto::fill_table(list, log, &mut table[..length]);
     let mut rows = [0usize; 1024];
     let count = pareto::competing_rows(log, &mut rows);
     passes::run_rows(
-        &table[..8 * n],
+        &table[..length],
         &rows[..count],
         w as usize,
         &mut marks[..n],

@@ -57,10 +57,11 @@ fn first_of_log(list: PreferenceList, log: &[i32], row: usize) -> usize
 {
     let n = log.len() / 8;
     let mut table = [0u16; 8192];
-    pareto::fill_table(list, log, &mut table);
+    let length = pareto::table_length(list, log);
+    pareto::fill_table(list, log, &mut table[..length]);
     let mut rows = [0usize; 1024];
     let count = pareto::competing_rows(log, &mut rows);
-    first_dominator(&table[..8 * n], &rows[..count], row, n)
+    first_dominator(&table[..length], &rows[..count], row, n)
 }
 
 // Answers with a row of the shortlist that betters the asked one.

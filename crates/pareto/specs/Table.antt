@@ -15,6 +15,10 @@ use Rattle.pareto.specs.Best.{vectorAt}
 abbrev pub tableEntry : PreferenceList → List ℤ → ℕ → ℕ
 tableEntry l log i = getD (vectorAt l log (i / 8)) (i % 8) 0 % 65536
 
+-- how many numbers it has
+unfoldable pub tableLength : PreferenceList → List ℤ → ℕ
+tableLength l log = 8 * rowCount log
+
 unfoldable pub tableOf : PreferenceList → List ℤ → List ℕ
 tableOf l log = joined (λ i. tableEntry l log i ∷ []) (8 * rowCount log)
 

@@ -10,7 +10,7 @@ ghost use Rattle.runs.specs.Log.{rowAt};
 ghost use Rattle.preference.specs.Parts.{rowNumber};
 ghost use Rattle.pareto.specs.Best.{competes, competing};
 ghost use Rattle.pareto.specs.Checked.{rowsNumber, checkedNumber};
-ghost use Rattle.pareto.specs.Table.{tableOf, lower, hasLower, relation, compared};
+ghost use Rattle.pareto.specs.Table.{tableLength, tableOf, lower, hasLower, relation, compared};
 
 // 8 or 0 of one row, handed on as the part of the log that begins at 8 × its number.
 fn row_at_number(list: PreferenceList, log: &[i32], r: usize) -> u8
@@ -92,6 +92,13 @@ pub fn competing_rows(log: &[i32], rows: &mut [usize]) -> usize
 }
 
 // ---- the level table
+
+// How many numbers the table of a list and a log takes.
+pub fn table_length(list: PreferenceList, log: &[i32]) -> usize
+    ensures { λ n. ⌜ n ≡ tableLength list (now (log .entry)) ⌝ }
+{
+    8 * (log.len() / 8)
+}
 
 // Fills the front of a table with the levels of a log, part by part.
 pub fn fill_table(list: PreferenceList, log: &[i32], table: &mut [u16])

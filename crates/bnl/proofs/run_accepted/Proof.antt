@@ -1,13 +1,15 @@
 use mathlib.Core.Path.{_≡_, sym, ap, _∙_}
 use mathlib.Core.List.{List, _++_}
-use Prim.Native.Nat.{ℕ, _*_, _≤_}
+use Prim.Native.Nat.{ℕ, _≤_}
 use native.Mathlib.Omega.{arith}
 use lib.IntN.{ℤ}
-use lib.ListN.{length, take, drop, length-replicate}
+use lib.ListN.{length, take, drop, replicate, length-replicate}
 use lib.Seq.{length-take-le}
 use borrow.Author.Needs.{needs}
 use Rattle.runs.specs.Log.{rowCount}
 use Rattle.pareto.specs.Best.{competing, marksAfter}
+use Rattle.pareto.specs.Table.{tableOf}
+use Rattle.pareto.specs.Laws.Table.{table-fits, handed-fits, table-handed}
 use Rattle.pareto.specs.Laws.Competing.{competing-few, competing-front}
 use Rattle.machine.specs.Machine.{State, machine}
 use Rattle.window.specs.Work.{tableDominates}
@@ -17,21 +19,38 @@ use Rattle.bnl.proofs.Table.{rows-wait, filled-machine}
 use Rattle.bnl.proofs.run_accepted.Statement.{statement}
 use Rattle.bnl.proofs.run_accepted.Tie as tie
 
+abbrev zeros : List ℕ
+zeros = replicate 8192 0
+
+-- the table has room
+fits : (t : tie.After-table-length) → t .table-length .result ≤ 8192
+fits t = let s = t .before .before .before in omega (arith, t .table-length .ensures, table-fits (s .args .list) (s .args .log .now) (s .pre .few))
+
 module _ (d : tie.After-competing-rows) where
   abbrev start : tie.Start
-  start = d .before .before .before .before .before .before .before
+  start = d .before .before .before .before .before .before .before .before
+
+  abbrev long : ℕ
+  long = d .before .before .before .before .before .table-length .result
 
   abbrev log : List ℤ
   log = start .args .log .now
 
   abbrev table : List ℕ
-  table = d .before .before .before .fill-table .last .1 .1 .0
+  table = d .before .before .before .fill-table .last .1 .1 .0 ++ drop long zeros
 
   abbrev rows : List ℕ
   rows = d .competing-rows .last .1 .0
 
-  table-long : 8 * rowCount log ≤ length table
-  table-long = omega (arith, start .pre .few, d .before .before .before .fill-table .kept .1 .1 .0, length-replicate {A = ℕ} 8192 0)
+  table-long : long ≤ length table
+  table-long =
+      let t = d .before .before .before .before .before in
+      handed-fits (start .args .list) log zeros long (t .table-length .ensures) (fits t) _ (d .before .before .before .fill-table .ensures)
+
+  table-is : take long table ≡ tableOf (start .args .list) log
+  table-is =
+      let t = d .before .before .before .before .before in
+      table-handed (start .args .list) log zeros long (t .table-length .ensures) (fits t) _ (d .before .before .before .fill-table .ensures)
 
   rows-long : d .competing-rows .result ≤ length rows
   rows-long = omega (arith, start .pre .few, d .competing-rows .ensures .0, competing-few log, d .competing-rows .kept .1 .0, length-replicate {A = ℕ} 1024 0)
@@ -45,14 +64,18 @@ module _ (d : tie.After-competing-rows) where
   marks-long = length-take-le _ (start .args .marks .now) (start .pre .marked)
 
   -- the machine that runs is the machine on the log
-  runs : machine (tableDominates (take (8 * rowCount log) table)) (start .args .w) (take (d .competing-rows .result) rows) (length (take (rowCount log) (start .args .marks .now)))
+  runs : machine (tableDominates (take long table)) (start .args .w) (take (d .competing-rows .result) rows) (length (take (rowCount log) (start .args .marks .now)))
       ≡ machineOf (start .args .list) log (start .args .w)
-  runs =
-      filled-machine (start .args .list) log _ _ (start .args .w) (start .pre) _ table _ _ (d .before .before .before .fill-table .ensures)
-      (omega (arith, length-replicate {A = ℕ} 8192 0)) rows-are marks-long
+  runs = filled-machine (start .args .list) log _ _ (start .args .w) (start .pre) _ _ _ table-is rows-are marks-long
+
+table-length-requires : tie.Need-table-length-requires
+table-length-requires c κs = search needs
+
+array-borrow-prefix-table : tie.Need-array-borrow-prefix-table
+array-borrow-prefix-table c = fits c
 
 slice-aggregate-fill-table : tie.Need-slice-aggregate-fill-table
-slice-aggregate-fill-table c = search needs
+slice-aggregate-fill-table c = sym (length-take-le _ zeros (fits (c .before)))
 
 fill-table-requires : tie.Need-fill-table-requires
 fill-table-requires c κs = search needs
@@ -62,9 +85,6 @@ slice-aggregate-competing-rows c = search needs
 
 competing-rows-requires : tie.Need-competing-rows-requires
 competing-rows-requires c κs = search needs
-
-mul-table : tie.Need-mul-table
-mul-table c = search needs
 
 array-share-prefix-table : tie.Need-array-share-prefix-table
 array-share-prefix-table c = table-long (c .before)
@@ -117,11 +137,12 @@ pub run-accepted-spec : {M : Type 1} → statement M
 run-accepted-spec =
     tie.close
     (tie.spec
+    table-length-requires
+    array-borrow-prefix-table
     slice-aggregate-fill-table
     fill-table-requires
     slice-aggregate-competing-rows
     competing-rows-requires
-    mul-table
     array-share-prefix-table
     slice-aggregate-run-rows
     array-share-prefix-rows

@@ -1,37 +1,48 @@
 use mathlib.Core.Path.{_≡_, sym, ap, _∙_}
-use mathlib.Core.List.{List}
-use Prim.Native.Nat.{ℕ, _*_, _≤_}
+use mathlib.Core.List.{List, _++_}
+use Prim.Native.Nat.{ℕ, _≤_}
 use native.Mathlib.Omega.{arith}
-use lib.ListN.{length, take, length-replicate}
+use lib.ListN.{length, take, drop, replicate, length-replicate}
 use lib.Seq.{length-take-le}
 use borrow.Author.Needs.{needs}
-use Rattle.runs.specs.Log.{rowCount}
 use Rattle.pareto.specs.Best.{competing}
 use Rattle.pareto.specs.Table.{tableOf}
 use Rattle.pareto.specs.Laws.Competing.{competing-few, competing-front}
-use Rattle.pareto.specs.Laws.Table.{table-front}
+use Rattle.pareto.specs.Laws.Table.{table-fits, handed-fits, table-handed}
 use Rattle.dominator.specs.Laws.First.{first-in-table}
 use Rattle.dominator.proofs.first_of_log.Statement.{statement}
 use Rattle.dominator.proofs.first_of_log.Tie as tie
 
+abbrev zeros : List ℕ
+zeros = replicate 8192 0
+
+-- the table has room
+fits : (t : tie.After-table-length) → t .table-length .result ≤ 8192
+fits t = omega (arith, t .table-length .ensures, table-fits (t .before .args .list) (t .before .args .log .now) (t .before .pre .few))
+
 -- the table and the rows at the front of their arrays
 module _ (d : tie.After-competing-rows) where
   abbrev start : tie.Start
-  start = d .before .before .before .before .before
+  start = d .before .before .before .before .before .before
+
+  abbrev long : ℕ
+  long = d .before .before .before .before .before .table-length .result
 
   abbrev table : List ℕ
-  table = d .before .before .before .fill-table .last .1 .1 .0
+  table = d .before .before .before .fill-table .last .1 .1 .0 ++ drop long zeros
 
   abbrev rows : List ℕ
   rows = d .competing-rows .last .1 .0
 
-  table-long : 8 * rowCount (start .args .log .now) ≤ length table
-  table-long = omega (arith, start .pre .few, d .before .before .before .fill-table .kept .1 .1 .0, length-replicate {A = ℕ} 8192 0)
+  table-long : long ≤ length table
+  table-long =
+      let t = d .before .before .before .before .before in
+      handed-fits (start .args .list) (start .args .log .now) zeros long (t .table-length .ensures) (fits t) _ (d .before .before .before .fill-table .ensures)
 
-  table-is : take (8 * rowCount (start .args .log .now)) table ≡ tableOf (start .args .list) (start .args .log .now)
+  table-is : take long table ≡ tableOf (start .args .list) (start .args .log .now)
   table-is =
-      ap (take (8 * rowCount (start .args .log .now))) (d .before .before .before .fill-table .ensures)
-      ∙ table-front (start .args .list) (start .args .log .now) _ (omega (arith, start .pre .few, length-replicate {A = ℕ} 8192 0))
+      let t = d .before .before .before .before .before in
+      table-handed (start .args .list) (start .args .log .now) zeros long (t .table-length .ensures) (fits t) _ (d .before .before .before .fill-table .ensures)
 
   rows-long : d .competing-rows .result ≤ length rows
   rows-long =
@@ -42,8 +53,14 @@ module _ (d : tie.After-competing-rows) where
       competing-front (start .args .log .now) _ rows (d .competing-rows .result)
       (omega (arith, start .pre .few, length-replicate {A = ℕ} 1024 0)) (d .competing-rows .ensures .0) (d .competing-rows .ensures .1)
 
+table-length-requires : tie.Need-table-length-requires
+table-length-requires c κs = search needs
+
+array-borrow-prefix-table : tie.Need-array-borrow-prefix-table
+array-borrow-prefix-table c = fits c
+
 slice-aggregate-fill-table : tie.Need-slice-aggregate-fill-table
-slice-aggregate-fill-table c = search needs
+slice-aggregate-fill-table c = sym (length-take-le _ zeros (fits (c .before)))
 
 fill-table-requires : tie.Need-fill-table-requires
 fill-table-requires c κs = search needs
@@ -53,9 +70,6 @@ slice-aggregate-competing-rows c = search needs
 
 competing-rows-requires : tie.Need-competing-rows-requires
 competing-rows-requires c κs = search needs
-
-mul-table : tie.Need-mul-table
-mul-table c = search needs
 
 array-share-prefix-table : tie.Need-array-share-prefix-table
 array-share-prefix-table c = table-long (c .before)
@@ -82,11 +96,12 @@ pub first-of-log-spec : {M : Type 1} → statement M
 first-of-log-spec =
     tie.close
     (tie.spec
+    table-length-requires
+    array-borrow-prefix-table
     slice-aggregate-fill-table
     fill-table-requires
     slice-aggregate-competing-rows
     competing-rows-requires
-    mul-table
     array-share-prefix-table
     slice-aggregate-first-dominator
     array-share-prefix-rows

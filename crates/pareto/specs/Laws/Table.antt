@@ -5,17 +5,16 @@ use native.Mathlib.Omega.{arith}
 use native.Mathlib.Nat.{mod-eq-of-lt}
 use native.Mathlib.Decide.{decLt}
 use mathlib.Core.Bool.{Bool, true, false, not, _&&_, _||_, cond}
-use mathlib.Core.List.{List, [], _∷_}
+use mathlib.Core.List.{List, [], _∷_, _++_, append-nil}
 use lib.Dec.{leb, ltb, eqb}
 use lib.IntN.{ℤ}
-use lib.ListN.{length, getD, take, List·getD-eq-default}
-use lib.Seq.{sets}
+use lib.ListN.{length, getD, take, drop, length-append, drop-of-length-le, List·getD-eq-default}
+use lib.Seq.{sets, sets-eq, take-at, length-take-le}
 use borrow.Author.Tests.{ltb-true, lt-ltb, le-ltb, leb-true, leb-false}
 use Rattle.laws.specs.First.{anyBelow}
 use Rattle.laws.specs.Laws.Bools.{both-ways}
 use Rattle.laws.specs.Laws.First.{any-found, any-at, any-cong, number-zero}
 use Rattle.laws.specs.Laws.Joined.{singles-at, singles-length}
-use Rattle.laws.specs.Laws.Stores.{stored-front}
 use Rattle.runs.specs.Log.{rowCount, rowAt}
 use Rattle.preference.specs.Valid.{listNumber}
 use Rattle.preference.specs.Parts.{levels, maxLevels, rowNumber}
@@ -24,7 +23,7 @@ use Rattle.preference.specs.declared.PreferenceList.{PreferenceList}
 use Rattle.pareto.specs.Dominance.{noneAbove, someBelow, dominates}
 use Rattle.pareto.specs.Best.{vectorAt, rowDominates}
 use Rattle.pareto.specs.Checked.{rowsNumber}
-use Rattle.pareto.specs.Table.{tableEntry, tableOf, lower, hasLower, relation, compared}
+use Rattle.pareto.specs.Table.{tableEntry, tableLength, tableOf, lower, hasLower, relation, compared}
 use Rattle.pareto.specs.Laws.Dominance.{below-at, below-of}
 
 -- ---- vectors of at most eight parts
@@ -56,15 +55,37 @@ some-of-eight v w l h =
 
 -- ---- the table
 
-pub table-long : (l : PreferenceList) (log : List ℤ) → length (tableOf l log) ≡ 8 * rowCount log
-unfolding tableOf
+-- eight numbers to a row
+pub table-rows : (l : PreferenceList) (log : List ℤ) → tableLength l log ≡ 8 * rowCount log
+unfolding tableLength
+table-rows l log = refl
+
+pub table-long : (l : PreferenceList) (log : List ℤ) → length (tableOf l log) ≡ tableLength l log
+unfolding tableOf tableLength
 table-long l log = singles-length (tableEntry l log) (8 * rowCount log)
 
--- it stands at the front of a list that it was stored in
-pub table-front : (l : PreferenceList) (log : List ℤ) (lent : List ℕ) → 8 * rowCount log ≤ length lent → take (8 * rowCount log) (sets lent 0 (tableOf l log)) ≡ tableOf l log
-table-front l log lent h =
+pub table-fits : (l : PreferenceList) (log : List ℤ) → rowCount log ≤ 1024 → tableLength l log ≤ 8192
+table-fits l log h = omega (arith, table-rows l log)
+
+-- it is all of a list of its length that it was stored in
+pub table-whole : (l : PreferenceList) (log : List ℤ) (lent : List ℕ) → length lent ≡ tableLength l log → sets lent 0 (tableOf l log) ≡ tableOf l log
+table-whole l log lent h =
     let n = table-long l log in
-    ap (λ (k : ℕ). take k (sets lent 0 (tableOf l log))) (sym n) ∙ stored-front lent (tableOf l log) (omega arith)
+    sets-eq (tableOf l log) lent 0 (omega arith) ∙ rw (drop-of-length-le lent {i = 0 + length (tableOf l log)} (omega arith)) (append-nil (tableOf l log))
+
+-- filled into the front of a longer list, which is handed on
+module _ (l : PreferenceList) (log : List ℤ) (zeros : List ℕ) (n : ℕ) (e : n ≡ tableLength l log) (h : n ≤ length zeros) (last : List ℕ) (f : last ≡ sets (take n zeros) 0 (tableOf l log)) where
+  last-is : last ≡ tableOf l log
+  last-is = f ∙ table-whole l log (take n zeros) (length-take-le n zeros h ∙ e)
+
+  last-long : length last ≡ n
+  last-long = ap length last-is ∙ table-long l log ∙ sym e
+
+  pub handed-fits : n ≤ length (last ++ drop n zeros)
+  handed-fits = rw (length-append last (drop n zeros)) (omega (arith, last-long))
+
+  pub table-handed : take n (last ++ drop n zeros) ≡ tableOf l log
+  table-handed = take-at last (drop n zeros) n last-long ∙ last-is
 
 module _ (l : PreferenceList) (log : List ℤ) (e : listNumber l ≡ 0) (f : rowsNumber l log ≡ 0) where
   level-small : (a : ℕ) → a < rowCount log → (k : ℕ) → getD (vectorAt l log a) k 0 < 65536
@@ -81,8 +102,8 @@ module _ (l : PreferenceList) (log : List ℤ) (e : listNumber l ≡ 0) (f : row
       singles-at (tableEntry l log) (8 * rowCount log) (8 * a + k) (omega arith)
       ∙ rw (p, q) (mod-eq-of-lt (level-small a h k))
 
-  table-rows : length (tableOf l log) / 8 ≡ rowCount log
-  table-rows = omega (arith, table-long l log)
+  rows-tabled : length (tableOf l log) / 8 ≡ rowCount log
+  rows-tabled = omega (arith, table-long l log, table-rows l log)
 
   lower-some : (a b : ℕ) → a < rowCount log → b < rowCount log → anyBelow (lower (tableOf l log) (8 * a) (8 * b)) 8 ≡ someBelow (vectorAt l log a) (vectorAt l log b)
   unfolding vectorAt
@@ -99,7 +120,7 @@ module _ (l : PreferenceList) (log : List ℤ) (e : listNumber l ≡ 0) (f : row
       let va = vectorAt l log a in
       let vb = vectorAt l log b in
       let n = levels-length l (rowAt log a) ∙ sym (levels-length l (rowAt log b)) in
-      rw (table-rows, lt-ltb a (rowCount log) h, lt-ltb b (rowCount log) j, lower-some a b h j, lower-some b a j h, none-not va vb n)
+      rw (rows-tabled, lt-ltb a (rowCount log) h, lt-ltb b (rowCount log) j, lower-some a b h j, lower-some b a j h, none-not va vb n)
       (cases (someBelow va vb) (someBelow vb va))
     where
       cases : (s t : Bool) → eqb (relation s t) 1 ≡ (not t && s)
