@@ -38,18 +38,44 @@ unnumbered s =
     ∙ take-at (replicate (rows s) 65535) (replicate (1024 - rows s) 65535) (rows s) (length-replicate (rows s) 65535)
     ∙ ap (λ (n : ℕ). replicate n 65535) (s .pre .1 .1 .1 .1)
 
+-- the numbers once the competing rows have 0
+module _ (o : tie.After-open-competing) where
+  abbrev begun : tie.Start
+  begun = o .before .before .before .before .before
+
+  abbrev opened : List ℕ
+  opened = o .open-competing .last .1 .0
+
+  opened-long : length opened ≡ rows begun
+  opened-long = o .open-competing .kept .1 .0 ∙ front begun
+
+  abbrev held : List ℕ
+  held = opened ++ drop (rows begun) none
+
+  held-long : rows begun ≤ length held
+  held-long = rw (length-append opened) (omega (arith, opened-long))
+
+  held-front : take (rows begun) held ≡ opened
+  held-front = take-at opened (drop (rows begun) none) (rows begun) opened-long
+
+  held-fits : length (take (rows begun) held) ≡ rows begun
+  held-fits = length-take-le (rows begun) held held-long
+
 -- the node numbers
 abbrev numbers : tie.After-fill-numbers → List ℕ
 numbers f = f .fill-numbers .last .1 .1 .1 .0
 
+abbrev before : tie.After-fill-numbers → tie.After-open-competing
+before f = f .before .before .before
+
 abbrev start : tie.After-fill-numbers → tie.Start
-start f = f .before .before .before .before .before
+start f = begun (before f)
 
 numbers-long : (f : tie.After-fill-numbers) → length (numbers f) ≡ rows (start f)
-numbers-long f = f .fill-numbers .kept .1 .1 .1 .0 ∙ front (start f)
+numbers-long f = f .fill-numbers .kept .1 .1 .1 .0 ∙ held-fits (before f)
 
-numbers-front : (f : tie.After-fill-numbers) → take (rows (start f)) (numbers f ++ drop (rows (start f)) none) ≡ numbers f
-numbers-front f = take-at (numbers f) (drop (rows (start f)) none) (rows (start f)) (numbers-long f)
+numbers-front : (f : tie.After-fill-numbers) → take (rows (start f)) (numbers f ++ drop (rows (start f)) (held (before f))) ≡ numbers f
+numbers-front f = take-at (numbers f) (drop (rows (start f)) (held (before f))) (rows (start f)) (numbers-long f)
 
 -- what the engine promises, told of what its arguments are
 told : (w w′ x x′ : List ℕ) (n n′ budget : ℕ) (marks : List ℕ) (ok : Bool) (made : ℕ) (marks′ nodes′ : List ℕ) → w ≡ w′ → x ≡ x′ → n ≡ n′
@@ -67,13 +93,23 @@ small l weights n w e =
 array-borrow-prefix-numbers : tie.Need-array-borrow-prefix-numbers
 array-borrow-prefix-numbers c = few (c .before .before .before)
 
+slice-aggregate-open-competing : tie.Need-slice-aggregate-open-competing
+slice-aggregate-open-competing c = sym (front (c .before .before .before .before))
+
+open-competing-requires : tie.Need-open-competing-requires
+open-competing-requires c κs = let s = c .before .before .before .before in (s .pre .1 .0, unnumbered s)
+
+array-borrow-prefix-numbers-2 : tie.Need-array-borrow-prefix-numbers-2
+array-borrow-prefix-numbers-2 c = held-long (c .before)
+
 slice-aggregate-fill-numbers : tie.Need-slice-aggregate-fill-numbers
-slice-aggregate-fill-numbers c = sym (front (c .before .before .before .before))
+slice-aggregate-fill-numbers c = sym (held-fits (c .before .before))
 
 fill-numbers-requires : tie.Need-fill-numbers-requires
 fill-numbers-requires c κs =
-    let s = c .before .before .before .before in
-    (s .pre .0, (s .pre .1 .0, (s .pre .1 .1 .0, unnumbered s)))
+    let o = c .before .before in
+    let s = begun o in
+    (s .pre .0, (s .pre .1 .0, (s .pre .1 .1 .0, held-front o ∙ o .open-competing .ensures)))
 
 array-share-prefix-numbers : tie.Need-array-share-prefix-numbers
 array-share-prefix-numbers c = rw (length-append (numbers (c .before))) (omega (arith, numbers-long (c .before)))
@@ -105,6 +141,9 @@ walk-rows-spec =
     tie.close
     (tie.spec
     array-borrow-prefix-numbers
+    slice-aggregate-open-competing
+    open-competing-requires
+    array-borrow-prefix-numbers-2
     slice-aggregate-fill-numbers
     fill-numbers-requires
     array-share-prefix-numbers
