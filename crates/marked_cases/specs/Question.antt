@@ -19,6 +19,8 @@ pub data Question : Type 0 where
   maxAsked : PreferenceList → ℕ → Question
   -- the marks of a log
   marksAsked : PreferenceList → List ℤ → Question
+  -- the marks that the window machine leaves, with a window
+  machineAsked : PreferenceList → List ℤ → ℕ → Question
   -- the nodes of a list's lattice, a log's crossings, and their bound
   latticeAsked : PreferenceList → List ℤ → Question
   -- a call of the lattice engine, with so many mark bytes and node bytes, and a budget
@@ -35,6 +37,7 @@ unfoldable pub answer : Question → Answer
 answer (levelAsked l i v) = ends (outcome (levelNumber l i v) (levelAt l i v))
 answer (maxAsked l i) = figure (maxAt l i)
 answer (marksAsked l log) = figures (marksOf l log)
+answer (machineAsked l log w) = figures (machineOf l log w .marks)
 answer (latticeAsked l log) = figures (nodeCount (latticeTops l) ∷ crossings (latticeTops l) (latticeRows l log) ∷ bound (latticeTops l) ∷ [])
 answer (windowCalled l log marks work w) = ends (outcome (windowNumber l log marks work w) (machineOf l log w .count))
 answer (latticeCalled l log marks nodes budget) = ends (outcome (latticeNumber l log marks nodes budget) (crossings (latticeTops l) (latticeRows l log)))

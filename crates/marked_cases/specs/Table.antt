@@ -1,17 +1,30 @@
 -- Document 01, "Harbour log and marked cases": the table.
-use Prim.Native.Nat.{ℕ, _+_, _*_}
+use Prim.Native.Nat.{ℕ, _+_, _-_, _*_}
 use mathlib.Core.List.{List, [], _∷_, _++_}
 use lib.IntN.{ℤ, pos, negsuc}
+use lib.ListN.{length, replicate}
 use Rattle.laws.specs.Outcome.{accepted, refused}
 use Rattle.constructor.specs.declared.Constructor.{Constructor}
 use Rattle.constructor.specs.declared.Constructor.the-variants.{Lowest, Highest, Around, Between, Layered}
+use Rattle.preference.specs.List.{zeroPreference, zeroNamed}
 use Rattle.preference.specs.declared.Named.{Named}
+use Rattle.preference.specs.declared.Preference.{Preference}
 use Rattle.preference.specs.declared.PreferenceList.{PreferenceList}
-use Rattle.marked_cases.specs.Question.{levelAsked, maxAsked, marksAsked, latticeAsked, latticeCalled, windowCalled, ends, figure, figures, Case}
+use Rattle.marked_cases.specs.Question.{levelAsked, maxAsked, marksAsked, machineAsked, latticeAsked, latticeCalled, windowCalled, ends, figure, figures, Case}
 
--- a list of one preference, with so many named values
-abbrev pub single : Constructor → ℕ → List Named → PreferenceList
-single c n names = record { count = 1; preferences = record { column = 1; constructor = c } ∷ []; namings = n; named = names }
+-- a list with these preferences and named values, and zeros at the rest of its eight and 64 places
+abbrev pub listOf : List Preference → List Named → PreferenceList
+listOf ps ns =
+    record {
+      count = length ps;
+      preferences = ps ++ replicate (8 - length ps) zeroPreference;
+      namings = length ns;
+      named = ns ++ replicate (64 - length ns) zeroNamed;
+    }
+
+-- a list of one preference
+abbrev pub single : Constructor → List Named → PreferenceList
+single c ns = listOf (record { column = 1; constructor = c } ∷ []) ns
 
 -- the level of a value, the number that it is refused by, and M, under the one preference of a list
 abbrev pub level : PreferenceList → ℤ → ℕ → Case
@@ -25,28 +38,24 @@ greatest l m = record { asks = maxAsked l 0; expects = figure m }
 
 -- the lists of P1 and P2, P3, P4 and P5 (every i32, by a step), P6
 abbrev pub around : PreferenceList
-around = single (Around (pos 45) (pos 75) 5 (pos 50)) 0 []
+around = single (Around (pos 45) (pos 75) 5 (pos 50)) []
 
 abbrev pub between : PreferenceList
-between = single (Between (pos 50) (pos 95) 5 (pos 60) (pos 80)) 0 []
+between = single (Between (pos 50) (pos 95) 5 (pos 60) (pos 80)) []
 
 abbrev pub lowest : ℕ → PreferenceList
-lowest step = single (Lowest (negsuc 2147483647) (pos 2147483647) step) 0 []
+lowest step = single (Lowest (negsuc 2147483647) (pos 2147483647) step) []
 
 abbrev pub layered : PreferenceList
-layered = single (Layered 2 1) 2 (record { preference = 0; value = pos 7; layer = 0 } ∷ record { preference = 0; value = pos 3; layer = 2 } ∷ [])
+layered = single (Layered 2 1) (record { preference = 0; value = pos 7; layer = 0 } ∷ record { preference = 0; value = pos 3; layer = 2 } ∷ [])
 
 -- the Harbour log: most cubic metres, density near 1,250; hours, cubic metres and density of each run, the rest 0
 abbrev pub harbour : PreferenceList
 harbour =
-    record {
-      count = 2;
-      preferences =
-          record { column = 1; constructor = Highest (pos 0) (pos 1000) 100 }
-          ∷ record { column = 2; constructor = Around (pos 1000) (pos 1600) 50 (pos 1250) } ∷ [];
-      namings = 0;
-      named = [];
-    }
+    listOf
+    (record { column = 1; constructor = Highest (pos 0) (pos 1000) 100 }
+    ∷ record { column = 2; constructor = Around (pos 1000) (pos 1600) 50 (pos 1250) } ∷ [])
+    []
 
 abbrev pub run : ℕ → ℕ → ℕ → List ℤ
 run hours metres density = pos hours ∷ pos metres ∷ pos density ∷ pos 0 ∷ pos 0 ∷ pos 0 ∷ pos 0 ∷ pos 0 ∷ []
@@ -56,13 +65,7 @@ harbourLog = run 800 900 1300 ++ run 650 1000 1400 ++ run 700 850 1250 ++ run 72
 
 -- two LOWEST wishes by 1, with so many levels above 0
 abbrev pub twoLowest : ℕ → ℕ → PreferenceList
-twoLowest m n =
-    record {
-      count = 2;
-      preferences = record { column = 1; constructor = Lowest (pos 0) (pos m) 1 } ∷ record { column = 2; constructor = Lowest (pos 0) (pos n) 1 } ∷ [];
-      namings = 0;
-      named = [];
-    }
+twoLowest m n = listOf (record { column = 1; constructor = Lowest (pos 0) (pos m) 1 } ∷ record { column = 2; constructor = Lowest (pos 0) (pos n) 1 } ∷ []) []
 
 abbrev pub marks : PreferenceList → List ℤ → List ℕ → Case
 marks l log m = record { asks = marksAsked l log; expects = figures m }
@@ -80,6 +83,10 @@ notCrossed l log rows nodes budget k = record { asks = latticeCalled l log rows 
 -- the window engine with window w, marks and a work list enough
 abbrev pub compared : PreferenceList → List ℤ → ℕ → ℕ → ℕ → Case
 compared l log rows w n = record { asks = windowCalled l log rows (2 * (rows + w)) w; expects = ends (accepted n) }
+
+-- the marks that the window machine itself leaves
+abbrev pub machineMarks : PreferenceList → List ℤ → ℕ → List ℕ → Case
+machineMarks l log w m = record { asks = machineAsked l log w; expects = figures m }
 
 -- P10's log: level vectors (2,1) (1,2) (0,5) (1,1)
 abbrev pub fourRuns : List ℤ
@@ -123,6 +130,7 @@ cases =
     compared harbour harbourLog 5 4 7 ∷
     -- P10
     marks (twoLowest 5 5) fourRuns (0 ∷ 0 ∷ 1 ∷ 1 ∷ []) ∷
+    machineMarks (twoLowest 5 5) fourRuns 2 (0 ∷ 0 ∷ 1 ∷ 1 ∷ []) ∷
     compared (twoLowest 5 5) fourRuns 4 2 6 ∷
     -- P11
     marks harbour [] [] ∷
