@@ -11,3 +11,4 @@ pub mod Ninth
 pub mod Longest
 pub mod Cut
 pub mod Examples
+pub mod Zeros

@@ -3,3 +3,4 @@ pub mod Level
 pub mod Parts
 pub mod Counted
 pub mod Names
+pub mod Layered
