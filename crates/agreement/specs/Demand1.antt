@@ -4,10 +4,10 @@ use mathlib.Core.Path.{_≡_, sym, _∙_}
 use Prim.Native.Nat.{ℕ, suc, _≤_}
 use native.Mathlib.Omega.{arith}
 use native.Mathlib.Nat.{pos-of-ne-zero}
-use mathlib.Core.List.{List}
+use mathlib.Core.List.{List, _++_}
 use lib.IntN.{ℤ, negsuc}
-use lib.ListN.{length}
-use borrow.Author.Tests.{ne-eqb}
+use lib.ListN.{length, drop, replicate}
+use borrow.Author.Tests.{eq-eqb, ne-eqb}
 use Rattle.laws.specs.Outcome.{outcome}
 use Rattle.laws.specs.Laws.Outcome.{refused-number}
 use Rattle.preference.specs.Level as level
@@ -16,6 +16,8 @@ use Rattle.preference.specs.declared.PreferenceList.{PreferenceList}
 use Rattle.pareto.specs.Best.{marksLeft}
 use Rattle.format.specs.Read.{readOf, logAfter}
 use Rattle.format.specs.Write.{writeNumber, outAfter}
+use Rattle.nodes.specs.Lattice.{nodeCount}
+use Rattle.lattice.specs.Walked.{latticeTops}
 use Rattle.lattice.specs.Engine.{nodesLeft, Ran}
 use Rattle.lattice.specs.declared.LatticeAnswer.the-variants.{Refused as LatticeRefused}
 use Rattle.bnl.specs.Engine as window
@@ -37,12 +39,14 @@ module _ (l : PreferenceList) (log : List ℤ) where
   -- "except that 11 leaves each node's byte zero"
   pub lattice-refused : (marks marks′ nodes nodes′ : List ℕ) (budget k : ℕ) → Ran l log marks nodes budget (LatticeRefused k) marks′ nodes′
       → NumberTo 11 k × (marks′ ≡ marks) × ((k ≡ 11 → ⊥) → nodes′ ≡ nodes)
+      × (k ≡ 11 → nodes′ ≡ replicate (nodeCount (latticeTops l)) 0 ++ drop (nodeCount (latticeTops l)) nodes)
   unfolding nodesLeft
   lattice-refused marks marks′ nodes nodes′ budget k a =
       let n = refused-number _ _ k (a .ends) in (
         (omega (arith, n .0, pos-of-ne-zero (n .1)), omega (arith, n .0, lattice-most l log (length marks) (length nodes) budget)),
         a .marks-are ∙ kept _ l log marks (n .1),
         λ h. a .nodes-are ∙ rw (ne-eqb _ 0 (n .1), ne-eqb _ 11 (λ e. h (sym (n .0) ∙ e))),
+        λ h. a .nodes-are ∙ rw (ne-eqb _ 0 (n .1), eq-eqb _ 11 (n .0 ∙ h)),
       )
 
   pub window-refused : (marks marks′ work work′ : List ℕ) (w k : ℕ) → window.Answered l log w marks marks′ work work′ (WindowRefused k)
