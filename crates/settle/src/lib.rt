@@ -1,10 +1,10 @@
 // The lattice engine on weights and node numbers: it marks the nodes that rows hold, walks over the nodes, and reads each row's mark from
 // its node.
-use walk::Progress;
+use crossing::Progress;
 ghost use mathlib.Core.Path.{_≡_};
 ghost use lib.ListN.{length, replicate, getD, set};
 ghost use Rattle.nodes.specs.Steps.{updated, heldByte, byteMark, markedBy};
-ghost use Rattle.walk.specs.Progress.{Small};
+ghost use Rattle.walk.specs.Blocks.{Small};
 ghost use Rattle.settle.specs.Settled.{Settles};
 
 fn clear(bytes: &mut [u8])

@@ -10,7 +10,7 @@ use Rattle.runs.specs.Log.{rowCount}
 use Rattle.runs.specs.Laws.Log.{accepted}
 use Rattle.preference.specs.declared.PreferenceList.{PreferenceList}
 use Rattle.nodes.specs.Lattice.{nodeCount}
-use Rattle.walk.specs.Progress.{Small}
+use Rattle.walk.specs.Blocks.{Small}
 use Rattle.settle.specs.Settled.{Settles}
 use Rattle.lattice.specs.Walked.{latticeTops}
 use Rattle.lattice.specs.Numbers.{Weighed}

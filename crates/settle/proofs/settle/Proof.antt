@@ -9,7 +9,7 @@ use lib.ListN.{length, replicate}
 use Rattle.laws.specs.Laws.Bools.{false-true}
 use Rattle.nodes.specs.Steps.{updated, heldByte, opened, trail, markedBy}
 use Rattle.nodes.specs.Laws.Steps.{opened-length}
-use Rattle.walk.specs.Progress.{Crosses}
+use Rattle.crossing.specs.Progress.{Crosses}
 use Rattle.settle.specs.Settled.{crossed, Settles}
 use Rattle.settle.proofs.settle.Statement.{statement}
 use Rattle.settle.proofs.settle.Tie as tie
