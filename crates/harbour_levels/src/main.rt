@@ -47,8 +47,8 @@ fn show_run(list: PreferenceList, row: u64, values: [i32; 8]) {
     show::text(b"run");
     show::number(row);
     show::text(b" levels");
-    show::number(preference::part_level(list, &values, 0));
-    show::number(preference::part_level(list, &values, 1));
+    show::number(levels::part_level(list, &values, 0));
+    show::number(levels::part_level(list, &values, 1));
     show::end_line();
 }
 
@@ -60,7 +60,7 @@ fn main() {
     show_run(list, 3, run(720, 880, 1210));
     show_run(list, 4, run(810, 900, 1270));
     show::text(b"greatest levels");
-    show::number(preference::part_max(list, 0));
-    show::number(preference::part_max(list, 1));
+    show::number(levels::part_max(list, 0));
+    show::number(levels::part_max(list, 1));
     show::end_line();
 }

@@ -44,8 +44,8 @@ fn table_line(label: &[u8], price_step: u32, mileage_step: u32) {
     show::text(label);
     let price = trial::single(trial::around(2000, 20000, price_step, 2000));
     let mileage = trial::single(trial::around(80000, 150000, mileage_step, 100000));
-    show::number(preference::part_max(price, 0));
-    show::number(preference::part_max(mileage, 0));
+    show::number(levels::part_max(price, 0));
+    show::number(levels::part_max(mileage, 0));
     show::end_line();
 }
 

@@ -2,12 +2,12 @@
 // source, and the file stdout holds the documents' figures: marks by row, counted from 0 where the documents count from 1.
 mod cars;
 mod john;
-mod levels;
+mod level_tables;
 mod matches;
 
 fn main() {
     cars::of_000();
     john::of_000();
-    levels::of_000();
+    level_tables::of_000();
     cars::of_003();
 }

@@ -19,7 +19,7 @@ fn row_at_number(list: PreferenceList, log: &[i32], r: usize) -> u8
 {
     let start = 8 * r;
     let end = start + 8;
-    preference::row_number(list, &log[start..end])
+    levels::row_number(list, &log[start..end])
 }
 
 // 8 where a value of a row lies outside the bounds of its wish, or 0.

@@ -22,7 +22,7 @@ struct Rule {
 fn rule_of(list: PreferenceList, k: usize) -> Rule
     ensures { λ r. ⌜ r ≡ ruleOf list k ⌝ }
 {
-    if preference::parts(list) <= k {
+    if levels::parts(list) <= k {
         return Rule {
             column: 0,
             low: 0,
@@ -31,7 +31,7 @@ fn rule_of(list: PreferenceList, k: usize) -> Rule
             layering: Layering::Numeric,
         };
     }
-    let at = preference::part_at(list, k);
+    let at = levels::part_at(list, k);
     let place = at.place;
     let p = list.preferences[place];
     let column = p.column;
@@ -69,7 +69,7 @@ fn value_at(log: &[i32], r: usize, column: usize) -> i32
 {
     let start = 8 * r;
     let end = start + 8;
-    preference::value_in(&log[start..end], column)
+    levels::value_in(&log[start..end], column)
 }
 
 // Part k of a form that goes by distance, into a column of a table: for each row a value, two differences, a division and a store.
@@ -109,7 +109,7 @@ fn fill_named(
     let mut r: usize = 0;
     while r < n {
         let v = value_at(log, r, column);
-        let layer = preference::layer_among(values, layers, count, v, others);
+        let layer = levels::layer_among(values, layers, count, v, others);
         table[8 * r + into] = layer as u16;
         r += 1;
     }
@@ -129,8 +129,8 @@ fn fill_layers(
 {
     let rule = rule_of(list, k);
     let column = rule.column;
-    let at = preference::part_at(list, k);
-    let names = preference::names_of(list, at.place);
+    let at = levels::part_at(list, k);
+    let names = levels::names_of(list, at.place);
     let values = names.values;
     let layers = names.layers;
     let count = names.count;

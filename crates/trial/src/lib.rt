@@ -124,7 +124,7 @@ fn value_of(from: u8, k: u8) -> i32 {
 
 // What the level of a value comes back as.
 pub fn show_level(list: PreferenceList, place: u32, value: i32) {
-    let answer = preference::level(list, place, value);
+    let answer = levels::level(list, place, value);
     match answer {
         LevelAnswer::Level(n) => show::number(n as u64),
         LevelAnswer::Refused(k) => {
@@ -148,7 +148,7 @@ pub fn show_levels(label: &[u8], list: PreferenceList, values: &[i32]) {
 // The greatest level of a form.
 pub fn show_max(label: &[u8], c: Constructor) {
     show::text(label);
-    show::number(preference::part_max(single(c), 0));
+    show::number(levels::part_max(single(c), 0));
     show::end_line();
 }
 

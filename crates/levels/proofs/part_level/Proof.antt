@@ -1,0 +1,61 @@
+use mathlib.Core.Path.{_≡_, sym, _∙_}
+use Prim.Native.Nat.{_<_}
+use native.Mathlib.Omega.{arith}
+use lib.ListN.{length}
+use borrow.Author.Needs.{needs}
+use Rattle.arith.specs.Laws.Local.{num}
+use Rattle.preference.specs.Parts.{maxLevels, partOf}
+use Rattle.preference.specs.Laws.Parts.{part-place, level-held, level-past}
+use Rattle.levels.proofs.part_level.Statement.{statement}
+use Rattle.levels.proofs.part_level.Tie as tie
+
+-- k is that of a part, whose preference is held
+module _ (p : tie.After-part-at) where
+  held : p .before .before .before .args .k < length (maxLevels (p .before .before .before .args .t1))
+  held = rw (p .before .before .parts .ensures) at (p .before .if1 .left)
+
+  inside : p .part-at .result .place < 8
+  inside = rw (p .part-at .ensures) (omega (arith, part-place (p .before .before .before .args .t1) (p .before .before .before .args .k) held))
+
+parts-requires : tie.Need-parts-requires
+parts-requires c κs = search needs
+
+returns : tie.Need-returns
+returns c =
+    let a = c .before .before .args in
+    sym (level-past (a .t1) (a .row .now) (a .k) (rw (c .before .parts .ensures) at (c .if1 .taken)))
+
+part-at-requires : tie.Need-part-at-requires
+part-at-requires c κs = search needs
+
+mul-p : tie.Need-mul-p
+mul-p c = omega (arith, inside c)
+
+element-copy-out-p : tie.Need-element-copy-out-p
+element-copy-out-p c = omega (arith, inside c)
+
+run-value-requires : tie.Need-run-value-requires
+run-value-requires c κs = search needs
+
+level-at-requires : tie.Need-level-at-requires
+level-at-requires c κs = search needs
+
+returns-2 : tie.Need-returns-2
+returns-2 c =
+    let v = c .before .run-value in
+    let p = c .before .before .before in
+    let a = p .before .before .before .args in
+    rw (num (v .result) (v .ok), v .ensures, p .part-at .ensures) at (c .level-at .ensures) ∙ sym (level-held (a .t1) (a .k) (held p) (a .row .now))
+
+pub part-level-spec : {M : Type 1} → statement M
+part-level-spec =
+    tie.close
+    (tie.spec
+    parts-requires
+    returns
+    part-at-requires
+    mul-p
+    element-copy-out-p
+    run-value-requires
+    level-at-requires
+    returns-2)
