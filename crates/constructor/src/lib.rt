@@ -1,5 +1,5 @@
 // Base preference constructors (000, section 3.1.1): what document 01 calls the five forms of a wish. Distance, level, greatest
-// level and the checks 6, 7 and 3 of one form. A sixth form is a case here and nowhere else.
+// level and the checks 6, 7 and 3 of one form. Levels and checks go by its cases here alone; the reader makes and the writer takes them.
 ghost use mathlib.Core.Path.{_≡_};
 ghost use Prim.Native.Nat.{_+_, max};
 ghost use Rattle.arith.specs.Gap.{gap};
