@@ -7,7 +7,7 @@ use lib.IntN.{ℤ}
 use Rattle.runs.specs.Log.{rowCount}
 use Rattle.preference.specs.declared.PreferenceList.{PreferenceList}
 use Rattle.pareto.specs.Best.{competing}
-use Rattle.pareto.specs.Table.{tableOf}
+use Rattle.level_table.specs.Table.{tableOf}
 use Rattle.pareto.specs.Laws.Competing.{competing-few, competing-at}
 use Rattle.machine.specs.Machine.{machine}
 use Rattle.window.specs.Work.{tableDominates}

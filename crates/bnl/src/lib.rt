@@ -40,8 +40,8 @@ fn run_accepted(
 {
     let n = log.len() / 8;
     let mut table = [0u16; 8192];
-    let length = pareto::table_length(list, log);
-    pareto::fill_table(list, log, &mut table[..length]);
+    let length = level_table::table_length(list, log);
+    level_table::fill_table(list, log, &mut table[..length]);
     let mut rows = [0usize; 1024];
     let count = pareto::competing_rows(log, &mut rows);
     passes::run_rows(

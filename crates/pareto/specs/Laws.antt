@@ -4,4 +4,3 @@ pub mod Best
 pub mod Marks
 pub mod Table
 pub mod Numbers
-pub mod Filled

@@ -1,4 +1,5 @@
-// Dominance, best matches and marks (specs/), and what engines know of a list and a log: its checks, and its level table.
+// Dominance, best matches and marks (specs/), and what engines ask of a list and a log: their checks, the rows that compete, and how two
+// rows of a level table stand.
 use preference::PreferenceList;
 ghost use mathlib.Core.Path.{_≡_};
 ghost use Prim.Native.Nat.{_+_, _*_, _≤_};
@@ -10,7 +11,7 @@ ghost use Rattle.runs.specs.Log.{rowAt};
 ghost use Rattle.preference.specs.Parts.{rowNumber};
 ghost use Rattle.pareto.specs.Best.{competes, competing};
 ghost use Rattle.pareto.specs.Checked.{rowsNumber, checkedNumber};
-ghost use Rattle.pareto.specs.Table.{tableLength, tableOf, lower, hasLower, relation, compared};
+ghost use Rattle.pareto.specs.Table.{lower, hasLower, relation, compared};
 
 // 8 or 0 of one row, handed on as the part of the log that begins at 8 × its number.
 fn row_at_number(list: PreferenceList, log: &[i32], r: usize) -> u8
@@ -91,25 +92,7 @@ pub fn competing_rows(log: &[i32], rows: &mut [usize]) -> usize
     n
 }
 
-// ---- the level table
-
-// How many numbers the table of a list and a log takes.
-pub fn table_length(list: PreferenceList, log: &[i32]) -> usize
-    ensures { λ n. ⌜ n ≡ tableLength list (now (log .entry)) ⌝ }
-{
-    8 * (log.len() / 8)
-}
-
-// Fills the front of a table with the levels of a log, part by part.
-pub fn fill_table(list: PreferenceList, log: &[i32], table: &mut [u16])
-    ensures { λ _. ⌜ now (table .exit) ≡ sets (now (table .entry)) 0 (tableOf list (now (log .entry))) ⌝ }
-{
-    let mut k: usize = 0;
-    while k < 8 {
-        parts::fill_part(list, log, k, k, table);
-        k += 1;
-    }
-}
+// ---- two rows of a level table
 
 fn relation_of(first: bool, second: bool) -> u8
     ensures { λ r. ⌜ r ≡ relation first second ⌝ }

@@ -8,8 +8,8 @@ use lib.Seq.{length-take-le}
 use borrow.Author.Needs.{needs}
 use Rattle.runs.specs.Log.{rowCount}
 use Rattle.pareto.specs.Best.{competing, marksAfter}
-use Rattle.pareto.specs.Table.{tableOf}
-use Rattle.pareto.specs.Laws.Table.{table-fits, handed-fits, table-handed}
+use Rattle.level_table.specs.Table.{tableOf}
+use Rattle.level_table.specs.Laws.Table.{table-fits, handed-fits, table-handed}
 use Rattle.pareto.specs.Laws.Competing.{competing-few, competing-front}
 use Rattle.machine.specs.Machine.{State, machine}
 use Rattle.window.specs.Work.{tableDominates}

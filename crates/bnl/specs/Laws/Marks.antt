@@ -18,7 +18,7 @@ use Rattle.preference.specs.Valid.{listNumber}
 use Rattle.preference.specs.declared.PreferenceList.{PreferenceList}
 use Rattle.pareto.specs.Best.{competes, competing, vectorAt, rowDominates, isBest, marksOf}
 use Rattle.pareto.specs.Checked.{rowsNumber}
-use Rattle.pareto.specs.Table.{tableOf}
+use Rattle.level_table.specs.Table.{tableOf}
 use Rattle.pareto.specs.Laws.Best.{row-transitive}
 use Rattle.pareto.specs.Laws.Competing.{competing-few, competing-below}
 use Rattle.pareto.specs.Laws.Dominance.{dominates-irreflexive}

@@ -6,9 +6,9 @@ use lib.ListN.{length, take, drop, replicate, length-replicate}
 use lib.Seq.{length-take-le}
 use borrow.Author.Needs.{needs}
 use Rattle.pareto.specs.Best.{competing}
-use Rattle.pareto.specs.Table.{tableOf}
+use Rattle.level_table.specs.Table.{tableOf}
 use Rattle.pareto.specs.Laws.Competing.{competing-few, competing-front}
-use Rattle.pareto.specs.Laws.Table.{table-fits, handed-fits, table-handed}
+use Rattle.level_table.specs.Laws.Table.{table-fits, handed-fits, table-handed}
 use Rattle.dominator.specs.Laws.First.{first-in-table}
 use Rattle.dominator.proofs.first_of_log.Statement.{statement}
 use Rattle.dominator.proofs.first_of_log.Tie as tie

@@ -18,7 +18,7 @@ use Rattle.laws.specs.Laws.First.{first-is, first-cong}
 use Rattle.runs.specs.Log.{rowCount}
 use Rattle.preference.specs.declared.PreferenceList.{PreferenceList}
 use Rattle.pareto.specs.Best.{competes, competing, rowDominates, isBest}
-use Rattle.pareto.specs.Table.{tableOf}
+use Rattle.level_table.specs.Table.{tableOf}
 use Rattle.pareto.specs.Laws.Table.{compared-dominates}
 use Rattle.dominator.specs.First.{bestDominates, firstDominator, Accepted, beats, bestBeats, firstOf}
 

@@ -1,29 +1,28 @@
 -- A look at two rows of the level table of an accepted list and log tells which of them dominates the other.
-use mathlib.Core.Path.{_≡_, refl, sym, ap, _∙_}
-use Prim.Native.Nat.{ℕ, _+_, _*_, _/_, _%_, _<_, _≤_}
+use mathlib.Core.Path.{_≡_, refl, sym, _∙_}
+use Prim.Native.Nat.{ℕ, _+_, _*_, _/_, _<_, _≤_}
 use native.Mathlib.Omega.{arith}
-use native.Mathlib.Nat.{mod-eq-of-lt}
 use native.Mathlib.Decide.{decLt}
 use mathlib.Core.Bool.{Bool, true, false, not, _&&_, _||_, cond}
-use mathlib.Core.List.{List, [], _∷_, _++_, append-nil}
+use mathlib.Core.List.{List, [], _∷_}
 use lib.Dec.{leb, ltb, eqb}
 use lib.IntN.{ℤ}
-use lib.ListN.{length, getD, take, drop, length-append, drop-of-length-le, List·getD-eq-default}
-use lib.Seq.{sets, sets-eq, take-at, length-take-le}
+use lib.ListN.{length, getD, List·getD-eq-default}
 use borrow.Author.Tests.{ltb-true, lt-ltb, le-ltb, leb-true, leb-false}
 use Rattle.laws.specs.First.{anyBelow}
 use Rattle.laws.specs.Laws.Bools.{both-ways}
 use Rattle.laws.specs.Laws.First.{any-found, any-at, any-cong, number-zero}
-use Rattle.laws.specs.Laws.Joined.{singles-at, singles-length}
 use Rattle.runs.specs.Log.{rowCount, rowAt}
 use Rattle.preference.specs.Valid.{listNumber}
-use Rattle.preference.specs.Parts.{levels, maxLevels, rowNumber}
-use Rattle.preference.specs.Laws.Parts.{within-at, at-most-at, levels-length, parts-few, max-levels-small, levels-within}
+use Rattle.preference.specs.Parts.{rowNumber}
+use Rattle.preference.specs.Laws.Parts.{levels-length, parts-few}
 use Rattle.preference.specs.declared.PreferenceList.{PreferenceList}
+use Rattle.level_table.specs.Table.{tableOf}
+use Rattle.level_table.specs.Laws.Table.{table-rows, table-long, table-levels}
 use Rattle.pareto.specs.Dominance.{noneAbove, someBelow, dominates}
 use Rattle.pareto.specs.Best.{vectorAt, rowDominates}
 use Rattle.pareto.specs.Checked.{rowsNumber}
-use Rattle.pareto.specs.Table.{tableEntry, tableLength, tableOf, lower, hasLower, relation, compared}
+use Rattle.pareto.specs.Table.{lower, hasLower, relation, compared}
 use Rattle.pareto.specs.Laws.Dominance.{below-at, below-of}
 
 -- ---- vectors of at most eight parts
@@ -55,52 +54,10 @@ some-of-eight v w l h =
 
 -- ---- the table
 
--- eight numbers to a row
-pub table-rows : (l : PreferenceList) (log : List ℤ) → tableLength l log ≡ 8 * rowCount log
-unfolding tableLength
-table-rows l log = refl
-
-pub table-long : (l : PreferenceList) (log : List ℤ) → length (tableOf l log) ≡ tableLength l log
-unfolding tableOf tableLength
-table-long l log = singles-length (tableEntry l log) (8 * rowCount log)
-
-pub table-fits : (l : PreferenceList) (log : List ℤ) → rowCount log ≤ 1024 → tableLength l log ≤ 8192
-table-fits l log h = omega (arith, table-rows l log)
-
--- it is all of a list of its length that it was stored in
-pub table-whole : (l : PreferenceList) (log : List ℤ) (lent : List ℕ) → length lent ≡ tableLength l log → sets lent 0 (tableOf l log) ≡ tableOf l log
-table-whole l log lent h =
-    let n = table-long l log in
-    sets-eq (tableOf l log) lent 0 (omega arith) ∙ rw (drop-of-length-le lent {i = 0 + length (tableOf l log)} (omega arith)) (append-nil (tableOf l log))
-
--- filled into the front of a longer list, which is handed on
-module _ (l : PreferenceList) (log : List ℤ) (zeros : List ℕ) (n : ℕ) (e : n ≡ tableLength l log) (h : n ≤ length zeros) (last : List ℕ) (f : last ≡ sets (take n zeros) 0 (tableOf l log)) where
-  last-is : last ≡ tableOf l log
-  last-is = f ∙ table-whole l log (take n zeros) (length-take-le n zeros h ∙ e)
-
-  last-long : length last ≡ n
-  last-long = ap length last-is ∙ table-long l log ∙ sym e
-
-  pub handed-fits : n ≤ length (last ++ drop n zeros)
-  handed-fits = rw (length-append last (drop n zeros)) (omega (arith, last-long))
-
-  pub table-handed : take n (last ++ drop n zeros) ≡ tableOf l log
-  table-handed = take-at last (drop n zeros) n last-long ∙ last-is
-
 module _ (l : PreferenceList) (log : List ℤ) (e : listNumber l ≡ 0) (f : rowsNumber l log ≡ 0) where
-  level-small : (a : ℕ) → a < rowCount log → (k : ℕ) → getD (vectorAt l log a) k 0 < 65536
-  unfolding vectorAt rowsNumber
-  level-small a h k =
-      let w = levels-within l e (rowAt log a) (number-zero (λ r. rowNumber l (rowAt log r)) (rowCount log) f a h) in
-      omega (arith, within-at (maxLevels l) (levels l (rowAt log a)) w k, at-most-at 65535 (maxLevels l) (max-levels-small l e) k)
-
   pub table-at : (a k : ℕ) → a < rowCount log → k < 8 → getD (tableOf l log) (8 * a + k) 0 ≡ getD (vectorAt l log a) k 0
-  unfolding tableOf
-  table-at a k h j =
-      let p : (8 * a + k) / 8 ≡ a = omega arith in
-      let q : (8 * a + k) % 8 ≡ k = omega arith in
-      singles-at (tableEntry l log) (8 * rowCount log) (8 * a + k) (omega arith)
-      ∙ rw (p, q) (mod-eq-of-lt (level-small a h k))
+  unfolding vectorAt rowsNumber
+  table-at a k h j = table-levels l log e a (number-zero (λ r. rowNumber l (rowAt log r)) (rowCount log) f a h) k h j
 
   rows-tabled : length (tableOf l log) / 8 ≡ rowCount log
   rows-tabled = omega (arith, table-long l log, table-rows l log)

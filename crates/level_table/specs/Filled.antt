@@ -1,0 +1,20 @@
+-- A table that is filled part by part: what the crate's own functions promise of it.
+use Prim.Native.Nat.{ℕ, zero, suc, _+_, _*_, _<_, _≤_}
+use mathlib.Core.List.{List}
+use lib.ListN.{set}
+
+-- a table, eight places to a row, with column k of its first n rows set to f 0, .., f (n - 1)
+unfoldable pub withPart : (ℕ → ℕ) → ℕ → ℕ → List ℕ → List ℕ
+withPart f k zero table = table
+withPart f k (suc n) table = set (withPart f k n table) (8 * n + k) (f n)
+
+-- a table with columns 0 to k - 1 of its first n rows set, to f k r in column k of row r
+unfoldable pub withParts : (ℕ → ℕ → ℕ) → ℕ → ℕ → List ℕ → List ℕ
+withParts f zero n table = table
+withParts f (suc k) n table = withPart (f k) k n (withParts f k n table)
+
+-- m of n rows are those that have column k of a table
+pub record RowsIn (n table k m : ℕ) : Type 0 where
+  pub few : m ≤ n
+  pub within : (r : ℕ) → r < m → 8 * r + k < table
+  pub beyond : (r : ℕ) → m ≤ r → r < n → table ≤ 8 * r + k

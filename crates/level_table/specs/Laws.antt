@@ -1,0 +1,4 @@
+pub mod Rule
+pub mod Part
+pub mod Filled
+pub mod Table

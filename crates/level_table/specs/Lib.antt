@@ -1,0 +1,4 @@
+pub mod Table
+pub mod Filled
+pub mod Rule
+pub mod Laws

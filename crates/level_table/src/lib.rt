@@ -1,0 +1,185 @@
+// The level table of a log. This crate is of the wish layer, and the last that takes a wish apart. Engines know a wish only by what is
+// promised here of a whole log, by the same `levels` as the level call, and by the greatest levels (`levels::parts`, `levels::part_max`).
+// What decides a part is taken out of the list once; then one loop goes over the rows.
+use constructor::Layering;
+use preference::PreferenceList;
+ghost use mathlib.Core.Path.{_≡_};
+ghost use Prim.Native.Nat.{_/_, _<_};
+ghost use lib.IntN.{pos};
+ghost use lib.ListN.{getD, length};
+ghost use lib.Seq.{sets};
+ghost use Rattle.runs.specs.Log.{rowAt, rowCount};
+ghost use Rattle.level_table.specs.Table.{partAt, tableLength, tableOf};
+ghost use Rattle.level_table.specs.Filled.{withPart, RowsIn};
+ghost use Rattle.level_table.specs.Rule.{rowLayer, ruleOf, Layered};
+
+// What decides a part of a level vector: the values of a column, by their distance from low..up or by layers.
+struct Rule {
+    column: usize,
+    low: i32,
+    up: i32,
+    step: u32,
+    layering: Layering,
+}
+
+// What decides part k of a level vector. Past the last part the step is 0, and so is every level.
+fn rule_of(list: PreferenceList, k: usize) -> Rule
+    ensures { λ r. ⌜ r ≡ ruleOf list k ⌝ }
+{
+    if levels::parts(list) <= k {
+        return Rule {
+            column: 0,
+            low: 0,
+            up: 0,
+            step: 0,
+            layering: Layering::Numeric,
+        };
+    }
+    let at = levels::part_at(list, k);
+    let place = at.place;
+    let p = list.preferences[place];
+    let column = p.column;
+    let c = p.constructor;
+    let t = constructor::target_of(c);
+    let low = t.low;
+    let up = t.up;
+    let s = constructor::scale_of(c);
+    let y = constructor::layering_of(c);
+    Rule {
+        column: arith::wide(column),
+        low: low,
+        up: up,
+        step: s.step,
+        layering: y,
+    }
+}
+
+// The rows of a log that have column k of a table.
+fn rows_in(log: usize, table: usize, k: usize) -> usize
+    ensures { λ r. ⌜ RowsIn (log / 8) table k r ⌝ }
+{
+    if table <= k {
+        return 0;
+    }
+    let held = (table - k - 1) / 8 + 1;
+    let rows = log / 8;
+    if rows <= held { rows } else { held }
+}
+
+// The value at a column of row r, which is handed on as the part of the log that begins at 8 × its number.
+fn value_at(log: &[i32], r: usize, column: usize) -> i32
+    requires { ⌜ r < length (now log) / 8 ⌝ }
+    ensures { λ v. ⌜ v ≡ getD (rowAt (now (log .entry)) r) column (pos 0) ⌝ }
+{
+    let start = 8 * r;
+    let end = start + 8;
+    levels::value_in(&log[start..end], column)
+}
+
+// Part k of a form that goes by distance, into a column of a table: for each row a value, two differences, a division
+// and a store.
+fn fill_distances(list: PreferenceList, log: &[i32], k: usize, into: usize, table: &mut [u16])
+    requires { ⌜ ruleOf list k .layering ≡ Layering.Numeric ⌝ }
+    ensures { λ _. ⌜
+        now (table .exit)
+        ≡ withPart (partAt list (now (log .entry)) k) into (rowCount (now (log .entry))) (now (table .entry)) ⌝ }
+{
+    let rule = rule_of(list, k);
+    let column = rule.column;
+    let low = rule.low;
+    let up = rule.up;
+    let step = rule.step;
+    let n = rows_in(log.len(), table.len(), into);
+    let mut r: usize = 0;
+    while r < n {
+        let v = value_at(log, r, column);
+        let level = constructor::level_outside(low, up, step, v);
+        table[8 * r + into] = (level % 65536) as u16;
+        r += 1;
+    }
+}
+
+// A column of a table from named values and their layers.
+fn fill_named(
+    values: &[i32],
+    layers: &[u8],
+    count: usize,
+    others: u8,
+    log: &[i32],
+    column: usize,
+    into: usize,
+    table: &mut [u16],
+)
+    ensures { λ _. ⌜
+        now (table .exit)
+        ≡ withPart (rowLayer (now (values .entry)) (now (layers .entry)) count others (now (log .entry)) column)
+        into (rowCount (now (log .entry))) (now (table .entry)) ⌝ }
+{
+    let n = rows_in(log.len(), table.len(), into);
+    let mut r: usize = 0;
+    while r < n {
+        let v = value_at(log, r, column);
+        let layer = levels::layer_among(values, layers, count, v, others);
+        table[8 * r + into] = layer as u16;
+        r += 1;
+    }
+}
+
+// Part k of a form with layers, into a column of a table.
+fn fill_layers(
+    list: PreferenceList,
+    log: &[i32],
+    k: usize,
+    into: usize,
+    others: u8,
+    table: &mut [u16],
+)
+    requires { ⌜ Layered list k others ⌝ }
+    ensures { λ _. ⌜
+        now (table .exit)
+        ≡ withPart (partAt list (now (log .entry)) k) into (rowCount (now (log .entry))) (now (table .entry)) ⌝ }
+{
+    let rule = rule_of(list, k);
+    let column = rule.column;
+    let at = levels::part_at(list, k);
+    let names = levels::names_of(list, at.place);
+    let values = names.values;
+    let layers = names.layers;
+    let count = names.count;
+    fill_named(&values, &layers, count, others, log, column, into, table);
+}
+
+// Sets a column of a table, eight places to a row, to part k of the level vectors of a log, in 16 bits.
+fn fill_part(list: PreferenceList, log: &[i32], k: usize, into: usize, table: &mut [u16])
+    ensures { λ _. ⌜
+        now (table .exit)
+        ≡ withPart (partAt list (now (log .entry)) k) into (rowCount (now (log .entry))) (now (table .entry)) ⌝ }
+{
+    let rule = rule_of(list, k);
+    let y = rule.layering;
+    match y {
+        Layering::Numeric => fill_distances(list, log, k, into, table),
+        Layering::Layers { top: _, others } => fill_layers(list, log, k, into, others, table),
+    }
+}
+
+// ---- the whole table
+
+// How many numbers the table of a list and a log takes.
+pub fn table_length(list: PreferenceList, log: &[i32]) -> usize
+    ensures { λ n. ⌜ n ≡ tableLength list (now (log .entry)) ⌝ }
+{
+    8 * (log.len() / 8)
+}
+
+// Fills the front of a table with the levels of a log, part by part.
+pub fn fill_table(list: PreferenceList, log: &[i32], table: &mut [u16])
+    ensures { λ _. ⌜
+        now (table .exit) ≡ sets (now (table .entry)) 0 (tableOf list (now (log .entry))) ⌝ }
+{
+    let mut k: usize = 0;
+    while k < 8 {
+        fill_part(list, log, k, k, table);
+        k += 1;
+    }
+}
