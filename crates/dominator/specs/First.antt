@@ -12,7 +12,7 @@ use Rattle.preference.specs.Valid.{listNumber}
 use Rattle.preference.specs.declared.PreferenceList.{PreferenceList}
 use Rattle.pareto.specs.Best.{rowDominates, isBest}
 use Rattle.pareto.specs.Checked.{rowsNumber}
-use Rattle.pareto.specs.Table.{compared}
+use Rattle.pareto.specs.Table.{firstDominates, compared}
 
 -- row s is on the shortlist and betters row r
 abbrev pub bestDominates : PreferenceList → List ℤ → ℕ → ℕ → Bool
@@ -33,7 +33,7 @@ pub record Accepted (l : PreferenceList) (log : List ℤ) (row : ℕ) : Type 0 w
 
 -- row s of a table dominates row r
 abbrev pub beats : List ℕ → ℕ → ℕ → Bool
-beats table s r = eqb (compared table s r) 1
+beats table s r = eqb (compared table s r) firstDominates
 
 -- row s dominates row r, and no row of the list dominates s
 unfoldable pub bestBeats : List ℕ → List ℕ → ℕ → ℕ → Bool

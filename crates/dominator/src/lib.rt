@@ -17,7 +17,7 @@ fn is_dominated(table: &[u16], rows: &[usize], s: usize) -> bool
 {
     let mut i: usize = 0;
     while i < rows.len() {
-        if pareto::compare(table, rows[i], s) == 1 {
+        if pareto::compare(table, rows[i], s) == pareto::FIRST_DOMINATES {
             return true;
         }
         i += 1;
@@ -29,7 +29,7 @@ fn is_dominated(table: &[u16], rows: &[usize], s: usize) -> bool
 fn is_best_dominator(table: &[u16], rows: &[usize], row: usize, s: usize) -> bool
     ensures { λ b. ⌜ b ≡ bestBeats (now (table .entry)) (now (rows .entry)) row s ⌝ }
 {
-    if pareto::compare(table, s, row) != 1 {
+    if pareto::compare(table, s, row) != pareto::FIRST_DOMINATES {
         return false;
     }
     !is_dominated(table, rows, s)

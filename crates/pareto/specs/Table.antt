@@ -14,9 +14,22 @@ lower table p q k = ltb (getD table (p + k) 0) (getD table (q + k) 0)
 unfoldable pub hasLower : List ℕ → ℕ → ℕ → Bool
 hasLower table a b = (ltb a (length table / 8) && ltb b (length table / 8)) && anyBelow (lower table (8 * a) (8 * b)) 8
 
--- 1 where only the first has a lower level, so that it dominates; 2 where only the second has one; 3 where both have, 0 where they are equal
+-- how two rows stand: equal at every level, or one of them betters the other, or each has a level below the other's
+abbrev pub equal : ℕ
+equal = 0
+
+abbrev pub firstDominates : ℕ
+firstDominates = 1
+
+abbrev pub secondDominates : ℕ
+secondDominates = 2
+
+abbrev pub incomparable : ℕ
+incomparable = 3
+
+-- "no level of a is above b's and one is below": only the first has a lower level, so that it dominates
 abbrev pub relation : Bool → Bool → ℕ
-relation first second = cond first (cond second 3 1) (cond second 2 0)
+relation first second = cond first (cond second incomparable firstDominates) (cond second secondDominates equal)
 
 -- how rows a and b of a table stand, both ways at once
 unfoldable pub compared : List ℕ → ℕ → ℕ → ℕ

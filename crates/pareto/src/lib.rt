@@ -60,7 +60,7 @@ pub fn checked_number(list: PreferenceList, log: &[i32], more: u8) -> u8
 // ---- the competing rows
 
 // Whether a row competes.
-fn row_competes(log: &[i32], r: usize) -> bool
+pub fn row_competes(log: &[i32], r: usize) -> bool
     ensures { λ b. ⌜ b ≡ competes (now (log .entry)) r ⌝ }
 {
     true
@@ -77,7 +77,9 @@ fn store_row(rows: &mut [usize], i: usize, r: usize)
 
 // Writes the numbers of the competing rows, in order, to the front of a list, and gives how many there are.
 pub fn competing_rows(log: &[i32], rows: &mut [usize]) -> usize
-    ensures { λ n. ⌜ (n ≡ length (competing (now (log .entry)))) × (now (rows .exit) ≡ sets (now (rows .entry)) 0 (competing (now (log .entry)))) ⌝ }
+    ensures { λ n. ⌜
+        (n ≡ length (competing (now (log .entry))))
+        × (now (rows .exit) ≡ sets (now (rows .entry)) 0 (competing (now (log .entry)))) ⌝ }
 {
     let count = log.len() / 8;
     let mut n: usize = 0;
@@ -94,13 +96,27 @@ pub fn competing_rows(log: &[i32], rows: &mut [usize]) -> usize
 
 // ---- two rows of a level table
 
+// How two rows stand.
+pub const EQUAL: u8 = 0;
+
+pub const FIRST_DOMINATES: u8 = 1;
+
+pub const SECOND_DOMINATES: u8 = 2;
+
+pub const INCOMPARABLE: u8 = 3;
+
+// How two rows stand, by which of them has a level below the other's.
 fn relation_of(first: bool, second: bool) -> u8
     ensures { λ r. ⌜ r ≡ relation first second ⌝ }
 {
     if first {
-        return if second { 3 } else { 1 };
+        return if second {
+            INCOMPARABLE
+        } else {
+            FIRST_DOMINATES
+        };
     }
-    if second { 2 } else { 0 }
+    if second { SECOND_DOMINATES } else { EQUAL }
 }
 
 // Whether each of two rows has a level below the other's, and how they stand by that.
@@ -113,7 +129,10 @@ pub struct Lower {
 // Two rows of a table that begin at p and q. One look at each level tells both ways.
 fn rows_compared(table: &[u16], p: usize, q: usize) -> Lower
     requires { ⌜ (p + 8 ≤ length (now table)) × (q + 8 ≤ length (now table)) ⌝ }
-    ensures { λ r. ⌜ (r .first ≡ anyBelow (lower (now (table .entry)) p q) 8) × (r .second ≡ anyBelow (lower (now (table .entry)) q p) 8) × (r .relation ≡ relation (r .first) (r .second)) ⌝ }
+    ensures { λ r. ⌜
+        (r .first ≡ anyBelow (lower (now (table .entry)) p q) 8)
+        × (r .second ≡ anyBelow (lower (now (table .entry)) q p) 8)
+        × (r .relation ≡ relation (r .first) (r .second)) ⌝ }
 {
     let mut first = false;
     let mut second = false;
@@ -134,27 +153,30 @@ fn rows_compared(table: &[u16], p: usize, q: usize) -> Lower
 
 // Which of rows a and b of a table has a level below the other's.
 pub fn lower_levels(table: &[u16], a: usize, b: usize) -> Lower
-    ensures { λ r. ⌜ (r .first ≡ hasLower (now (table .entry)) a b) × (r .second ≡ hasLower (now (table .entry)) b a) × (r .relation ≡ compared (now (table .entry)) a b) ⌝ }
+    ensures { λ r. ⌜
+        (r .first ≡ hasLower (now (table .entry)) a b)
+        × (r .second ≡ hasLower (now (table .entry)) b a)
+        × (r .relation ≡ compared (now (table .entry)) a b) ⌝ }
 {
     let n = table.len() / 8;
     if n <= a {
         return Lower {
             first: false,
             second: false,
-            relation: 0,
+            relation: EQUAL,
         };
     }
     if n <= b {
         return Lower {
             first: false,
             second: false,
-            relation: 0,
+            relation: EQUAL,
         };
     }
     rows_compared(table, 8 * a, 8 * b)
 }
 
-// How rows a and b of a table stand: 1 where a dominates, 2 where b does, 3 where neither does and they differ, else 0.
+// How rows a and b of a table stand; a row that the table has not has no level below another's.
 pub fn compare(table: &[u16], a: usize, b: usize) -> u8
     ensures { λ r. ⌜ r ≡ compared (now (table .entry)) a b ⌝ }
 {

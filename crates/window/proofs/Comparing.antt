@@ -6,18 +6,18 @@ use mathlib.Core.List.{List}
 use lib.Dec.{eqb}
 use lib.ListN.{getD}
 use borrow.Author.Tests.{eq-eqb, ne-eqb, not-false}
-use Rattle.pareto.specs.Table.{hasLower, compared, relation}
+use Rattle.pareto.specs.Table.{firstDominates, secondDominates, hasLower, compared, relation}
 use Rattle.machine.specs.Machine.{spares}
 use Rattle.window.specs.Work.{tableDominates, entryAt}
 
 -- one compare tells both ways
-turned : (first second : Bool) → eqb (relation first second) 2 ≡ eqb (relation second first) 1
+turned : (first second : Bool) → eqb (relation first second) secondDominates ≡ eqb (relation second first) firstDominates
 turned true true = refl
 turned true false = refl
 turned false true = refl
 turned false false = refl
 
-pub compared-turned : (t : List ℕ) (a b : ℕ) → eqb (compared t a b) 2 ≡ tableDominates t b a
+pub compared-turned : (t : List ℕ) (a b : ℕ) → eqb (compared t a b) secondDominates ≡ tableDominates t b a
 unfolding compared tableDominates
 compared-turned t a b = turned (hasLower t a b) (hasLower t b a)
 
@@ -30,7 +30,7 @@ same-bools false false e = refl
 
 -- two rows that both have a lower level, or both none, are apart
 module _ (t l : List ℕ) (r i : ℕ) (b : Bool) (p : b ≡ hasLower t (getD l (2 * i) 0) r) (q : b ≡ hasLower t r (getD l (2 * i) 0)) where
-  even : (d : Bool) → eqb (relation d d) 1 ≡ false
+  even : (d : Bool) → eqb (relation d d) firstDominates ≡ false
   even true = refl
   even false = refl
 
@@ -44,15 +44,15 @@ module _ (t l : List ℕ) (r i : ℕ) (b : Bool) (p : b ≡ hasLower t (getD l (
 
 -- the compare v with entry i
 module _ (t l : List ℕ) (r i v : ℕ) (e : v ≡ compared t (getD l (2 * i) 0) r) where
-  pub hits : v ≡ 1 → tableDominates t (getD l (2 * i) 0) r ≡ true
+  pub hits : v ≡ firstDominates → tableDominates t (getD l (2 * i) 0) r ≡ true
   unfolding tableDominates
   hits q = eq-eqb _ 1 (sym e ∙ q)
 
-  pub misses : (v ≡ 1 → ⊥) → tableDominates t (getD l (2 * i) 0) r ≡ false
+  pub misses : (v ≡ firstDominates → ⊥) → tableDominates t (getD l (2 * i) 0) r ≡ false
   unfolding tableDominates
   misses q = ne-eqb _ 1 (λ x. q (e ∙ x))
 
-  pub flag-value : eqb v 2 ≡ not (spares (tableDominates t) r (entryAt l i))
+  pub flag-value : eqb v secondDominates ≡ not (spares (tableDominates t) r (entryAt l i))
   unfolding spares entryAt
   flag-value = rw e (compared-turned t (getD l (2 * i) 0) r ∙ twice (tableDominates t r (getD l (2 * i) 0)))
     where
@@ -60,5 +60,5 @@ module _ (t l : List ℕ) (r i v : ℕ) (e : v ≡ compared t (getD l (2 * i) 0)
       twice true = refl
       twice false = refl
 
-  pub spared-by : eqb v 2 ≡ false → spares (tableDominates t) r (entryAt l i) ≡ true
+  pub spared-by : eqb v secondDominates ≡ false → spares (tableDominates t) r (entryAt l i) ≡ true
   spared-by q = not-false (spares (tableDominates t) r (entryAt l i)) (sym flag-value ∙ q)

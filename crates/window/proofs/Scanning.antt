@@ -11,7 +11,7 @@ use lib.Seq.{getD-set-same, getD-set-other}
 use borrow.Author.Count.{below-more}
 use Rattle.laws.specs.Lists.{anyOf}
 use Rattle.laws.specs.Laws.Bools.{neither}
-use Rattle.pareto.specs.Table.{compared}
+use Rattle.pareto.specs.Table.{firstDominates, secondDominates, compared}
 use Rattle.machine.specs.Machine.{Entry, dominated, compares, spares}
 use Rattle.window.specs.Work.{tableDominates, entryAt, entries, Undropped, Fronted, Scanned}
 use Rattle.window.specs.declared.Front.{Front}
@@ -38,11 +38,11 @@ module _ (dom : ℕ → ℕ → Bool) (r : ℕ) (l : List ℕ) (n : ℕ) where
     undropped-end h = (rw (entries-done l i n h) at (z .dominated-left), omega (arith, z .within, rw (entries-done l i n h) at (z .compares-left)))
 
 -- the flags from place s on, and one more
-pub told-more : (p : Entry → Bool) (l : List ℕ) (s i : ℕ) (f : List ℕ) (v : ℕ) → ((j : ℕ) → s ≤ j → j < i → eqb (getD f j 0) 2 ≡ not (p (entryAt l j))) → i < length f → eqb v 2 ≡ not (p (entryAt l i))
-    → (j : ℕ) → s ≤ j → j < i + 1 → eqb (getD (set f i v) j 0) 2 ≡ not (p (entryAt l j))
+pub told-more : (p : Entry → Bool) (l : List ℕ) (s i : ℕ) (f : List ℕ) (v : ℕ) → ((j : ℕ) → s ≤ j → j < i → eqb (getD f j 0) secondDominates ≡ not (p (entryAt l j))) → i < length f → eqb v secondDominates ≡ not (p (entryAt l i))
+    → (j : ℕ) → s ≤ j → j < i + 1 → eqb (getD (set f i v) j 0) secondDominates ≡ not (p (entryAt l j))
 told-more p l s i f v h room e j a k = go (ℕ-discrete j i)
   where
-    go : Dec (j ≡ i) → eqb (getD (set f i v) j 0) 2 ≡ not (p (entryAt l j))
+    go : Dec (j ≡ i) → eqb (getD (set f i v) j 0) secondDominates ≡ not (p (entryAt l j))
     go (yes q) = rw (q, getD-set-same f i v 0 room) e
     go (no q) = rw (getD-set-other f i j v 0 q) (h j a (omega arith))
 
@@ -54,19 +54,19 @@ pub record Scanning (t : List ℕ) (r : ℕ) (l : List ℕ) (n from : ℕ) (f : 
   pub behind : from ≤ i
   pub next : i < n → v ≡ compared t (getD l (2 * i) 0) r
   pub front : (j : ℕ) → j < from → spares (tableDominates t) r (entryAt l j) ≡ true
-  pub told : (j : ℕ) → from ≤ j → j < i → eqb (getD f j 0) 2 ≡ not (spares (tableDominates t) r (entryAt l j))
+  pub told : (j : ℕ) → from ≤ j → j < i → eqb (getD f j 0) secondDominates ≡ not (spares (tableDominates t) r (entryAt l j))
   pub none : d ≡ false → (j : ℕ) → j < i → spares (tableDominates t) r (entryAt l j) ≡ true
 
 pub scanning-start : {t l f : List ℕ} {r n : ℕ} {g : Front} → Fronted t r l n g → Scanning t r l n (g .at) f (g .at) (g .relation) false
 scanning-start z = record { undropped = z .undropped; behind = omega arith; next = z .next; front = z .spared; told = λ j a b. absurd (omega arith); none = λ _. z .spared }
 
 module _ {t : List ℕ} {r : ℕ} {l : List ℕ} {n from : ℕ} {f : List ℕ} {i v : ℕ} {d : Bool} (z : Scanning t r l n from f i v d) where
-  pub scanning-hit : i < n → v ≡ 1 → Scanned (tableDominates t) r l n f (record { dropped = true; from = from; compares = i + 1 })
+  pub scanning-hit : i < n → v ≡ firstDominates → Scanned (tableDominates t) r l n f (record { dropped = true; from = from; compares = i + 1 })
   scanning-hit h q =
       let e = undropped-hit (tableDominates t) r l n (z .undropped) h (hits t l r i v (z .next h) q) in
       record { dropped-is = e .0; count-is = e .1; few = omega (arith, z .behind); flags-are = λ x. absurd (true≢false x) }
 
-  pub scanning-more : i < n → (v ≡ 1 → ⊥) → n ≤ length f → {v′ : ℕ} → (i + 1 < n → v′ ≡ compared t (getD l (2 * (i + 1)) 0) r) → Scanning t r l n from (set f i v) (i + 1) v′ (d || eqb v 2)
+  pub scanning-more : i < n → (v ≡ firstDominates → ⊥) → n ≤ length f → {v′ : ℕ} → (i + 1 < n → v′ ≡ compared t (getD l (2 * (i + 1)) 0) r) → Scanning t r l n from (set f i v) (i + 1) v′ (d || eqb v secondDominates)
   scanning-more h q room next = record {
     undropped = undropped-more (tableDominates t) r l n (z .undropped) h (misses t l r i v (z .next h) q);
     behind = omega (arith, z .behind);
@@ -74,7 +74,7 @@ module _ {t : List ℕ} {r : ℕ} {l : List ℕ} {n from : ℕ} {f : List ℕ} {
     front = z .front;
     told = told-more (spares (tableDominates t) r) l from i f v (z .told) (omega arith) (flag-value t l r i v (z .next h));
     none = λ x.
-        let b = neither d (eqb v 2) x in
+        let b = neither d (eqb v secondDominates) x in
         below-more (λ (j : ℕ). spares (tableDominates t) r (entryAt l j) ≡ true) i (z .none (b .0)) (spared-by t l r i v (z .next h) (b .1));
   }
 

@@ -6,7 +6,7 @@ use mathlib.Core.Bool.{Bool, true, false, not}
 use mathlib.Core.List.{List, [], _∷_}
 use lib.Dec.{eqb}
 use lib.ListN.{getD, set, length}
-use Rattle.pareto.specs.Table.{compared}
+use Rattle.pareto.specs.Table.{firstDominates, secondDominates, compared}
 use Rattle.machine.specs.Machine.{Entry, State, keep, marked, older, younger, dominated, compares, spares, judge, read}
 use Rattle.window.specs.declared.Front.{Front}
 use Rattle.window.specs.declared.Standing.{Standing}
@@ -14,7 +14,7 @@ use Rattle.window.specs.declared.Verdict.{Verdict}
 
 -- row a of a level table dominates row b
 unfoldable pub tableDominates : List ℕ → ℕ → ℕ → Bool
-tableDominates table a b = eqb (compared table a b) 1
+tableDominates table a b = eqb (compared table a b) firstDominates
 
 -- ---- entries
 
@@ -51,10 +51,10 @@ pub record Released (s : ℕ) (l l′ : List ℕ) (n m : ℕ) (marks marks′ : 
   pub filtered : Filtered (younger s) l l′ n m
   pub marks-are : marks′ ≡ marked (keep (older s) (entries l 0 n)) marks
 
--- the test p takes no entry out before place i of n, and from there on a flag of 2 says that it does
+-- the test p takes no entry out before place i of n, and from there on the flag of one that the row dominates says that it does
 pub record Flags (p : Entry → Bool) (l : List ℕ) (i n : ℕ) (flags : List ℕ) : Type 0 where
   pub front : (j : ℕ) → j < i → p (entryAt l j) ≡ true
-  pub told : (j : ℕ) → i ≤ j → j < n → eqb (getD flags j 0) 2 ≡ not (p (entryAt l j))
+  pub told : (j : ℕ) → i ≤ j → j < n → eqb (getD flags j 0) secondDominates ≡ not (p (entryAt l j))
 
 -- row r was compared with the first i of n entries, and none of them dominates it
 pub record Undropped (dom : ℕ → ℕ → Bool) (r : ℕ) (l : List ℕ) (n i : ℕ) : Type 0 where

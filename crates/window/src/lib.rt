@@ -43,7 +43,8 @@ pub fn mark(marks: &mut [u8], row: usize)
 
 // ---- reading one row
 
-// How many entries, the oldest first, are apart from a row: neither dominates the other. How the next one and the row stand, or 3.
+// How many entries, the oldest first, are apart from a row: neither dominates the other. How the next one, if there is
+// one, and the row stand.
 pub struct Front {
     pub at: usize,
     pub relation: u8,
@@ -64,13 +65,13 @@ fn entry_row(work: &[u32], at: usize) -> usize
     work[2 * at] as usize
 }
 
-// How an entry of the window and a row stand; 3 behind the last.
+// How an entry of the window and a row stand; behind the last they are apart.
 fn entry_compared(table: &[u16], work: &[u32], at: usize, held: usize, row: u32) -> u8
     requires { ⌜ (held ≤ 1024) × (2 * held ≤ length (now work)) ⌝ }
     ensures { λ k. ⌜ (at < held → k ≡ compared (now (table .entry)) (getD (now (work .entry)) (2 * at) 0) row) ⌝ }
 {
     if held <= at {
-        return 3;
+        return pareto::INCOMPARABLE;
     }
     pareto::compare(table, entry_row(work, at), row as usize)
 }
@@ -94,7 +95,7 @@ fn apart(table: &[u16], work: &[u32], held: usize, row: u32) -> Front
     }
     Front {
         at: held,
-        relation: 3,
+        relation: pareto::INCOMPARABLE,
     }
 }
 
@@ -110,14 +111,14 @@ fn scan(table: &[u16], work: &[u32], held: usize, row: u32, flags: &mut [u8]) ->
     let mut relation = front.relation;
     let mut dominates = false;
     while at < held {
-        if relation == 1 {
+        if relation == pareto::FIRST_DOMINATES {
             return Verdict {
                 dropped: true,
                 from,
                 compares: at + 1,
             };
         }
-        dominates = dominates | (relation == 2);
+        dominates = dominates | (relation == pareto::SECOND_DOMINATES);
         flags[at] = relation;
         at += 1;
         relation = entry_compared(table, work, at, held, row);
@@ -136,7 +137,7 @@ fn scan(table: &[u16], work: &[u32], held: usize, row: u32, flags: &mut [u8]) ->
     }
 }
 
-// Removes the entries whose flag is 2, from one entry on; how many stay comes back.
+// Removes the entries that the row dominates by their flags, from one entry on; how many stay comes back.
 fn remove(flags: &[u8], work: &mut [u32], from: usize, held: usize) -> usize
     requires { ⌜ (held ≤ 1024) × (from ≤ held) × (held ≤ length (now flags)) × (2 * held ≤ length (now work)) ⌝ }
     ensures { λ m. ⌜ ((p : Entry → Bool) → Flags p (now (work .entry)) from held (now (flags .entry)) → Filtered p (now (work .entry)) (now (work .exit)) held m) ⌝ }
@@ -146,7 +147,7 @@ fn remove(flags: &[u8], work: &mut [u32], from: usize, held: usize) -> usize
     while i < held {
         let row = word(work, 2 * i);
         let timestamp = word(work, 2 * i + 1);
-        if flags[i] != 2 {
+        if flags[i] != pareto::SECOND_DOMINATES {
             put_entry(work, m, row, timestamp);
             m += 1;
         }

@@ -22,7 +22,7 @@ use Rattle.level_table.specs.Laws.Table.{table-rows, table-long, table-levels}
 use Rattle.pareto.specs.Dominance.{noneAbove, someBelow, dominates}
 use Rattle.pareto.specs.Best.{vectorAt, rowDominates}
 use Rattle.pareto.specs.Checked.{rowsNumber}
-use Rattle.pareto.specs.Table.{lower, hasLower, relation, compared}
+use Rattle.pareto.specs.Table.{lower, hasLower, firstDominates, relation, compared}
 use Rattle.pareto.specs.Laws.Dominance.{below-at, below-of}
 
 -- ---- vectors of at most eight parts
@@ -70,8 +70,9 @@ module _ (l : PreferenceList) (log : List ℤ) (e : listNumber l ≡ 0) (f : row
       ∙ some-of-eight (vectorAt l log a) (vectorAt l log b) (levels-length l (rowAt log a) ∙ sym (levels-length l (rowAt log b)))
       (omega (arith, levels-length l (rowAt log b), parts-few l))
 
-  -- 1 exactly where row a dominates row b
-  pub compared-dominates : (a b : ℕ) → a < rowCount log → b < rowCount log → eqb (compared (tableOf l log) a b) 1 ≡ rowDominates l log a b
+  -- the first dominates exactly where row a dominates row b
+  pub compared-dominates : (a b : ℕ) → a < rowCount log → b < rowCount log
+      → eqb (compared (tableOf l log) a b) firstDominates ≡ rowDominates l log a b
   unfolding compared hasLower rowDominates dominates vectorAt
   compared-dominates a b h j =
       let va = vectorAt l log a in
@@ -80,7 +81,7 @@ module _ (l : PreferenceList) (log : List ℤ) (e : listNumber l ≡ 0) (f : row
       rw (rows-tabled, lt-ltb a (rowCount log) h, lt-ltb b (rowCount log) j, lower-some a b h j, lower-some b a j h, none-not va vb n)
       (cases (someBelow va vb) (someBelow vb va))
     where
-      cases : (s t : Bool) → eqb (relation s t) 1 ≡ (not t && s)
+      cases : (s t : Bool) → eqb (relation s t) firstDominates ≡ (not t && s)
       cases true true = refl
       cases true false = refl
       cases false true = refl
