@@ -2,18 +2,28 @@
 use Prim.Native.Nat.{ℕ, _*_, _/_, _%_}
 use mathlib.Core.List.{List}
 use mathlib.Core.Bool.{not, _||_}
-use lib.ListN.{length, take, drop}
+use lib.ListN.{getD, length, take, drop}
 use lib.Dec.{ltb, eqb}
 use lib.IntN.{ℤ}
+use Rattle.limits.specs.Limits.{columns, maxValues}
 use Rattle.laws.specs.Checks.{_gives_}
+use Rattle.laws.specs.First.{anyBelow}
 
 abbrev pub rowCount : List ℤ → ℕ
-rowCount log = length log / 8
+rowCount log = length log / columns
 
 -- one row: "the part of the list that begins at 8 × its number"
 abbrev pub rowAt : List ℤ → ℕ → List ℤ
-rowAt log r = take 8 (drop (8 * r) log)
+rowAt log r = take columns (drop (columns * r) log)
 
 -- 10: "log not eights or too long"
 unfoldable pub logNumber : List ℤ → ℕ
-logNumber log = not (eqb (length log % 8) 0) || ltb 8192 (length log) gives 10
+logNumber log = not (eqb (length log % columns) 0) || ltb maxValues (length log) gives 10
+
+-- 10: "lent buffer too short": marks shorter than the rows
+abbrev pub marksNumber : List ℤ → ℕ → ℕ
+marksNumber log marks = ltb marks (rowCount log) gives 10
+
+-- document 02, orders 1 and 11: "14, a row's mark not 0 or 1"; a mark that is not there reads as 0
+unfoldable pub markValuesNumber : List ℤ → List ℕ → ℕ
+markValuesNumber log marks = anyBelow (λ r. ltb 1 (getD marks r 0)) (rowCount log) gives 14
