@@ -6,7 +6,8 @@ use mathlib.Core.Path.{_≡_, refl, sym, ap, ap₂, subst, _∙_}
 use mathlib.Core.Bool.{Bool}
 use mathlib.Core.List.{List, _∷_}
 use lib.ListN.{getD, length}
-use Rattle.machine.specs.Laws.Order.{Rising, Ordered, read-ordered}
+use Rattle.machine.specs.Order.{Rising, Ordered}
+use Rattle.machine.specs.Laws.Order.{read-ordered}
 use Rattle.machine.specs.Machine.{Entry, State, read, pass}
 use Rattle.window.specs.Work.{entryAt, entries, stateOf, stateAt, Ready, Read}
 use Rattle.passes.specs.Passes.{PassReady, Passed}

@@ -5,7 +5,7 @@ use mathlib.Core.Path.{_≡_, refl, sym, ap, _∙_}
 use mathlib.Core.Bool.{Bool, false, cond}
 use mathlib.Core.List.{List, map, List·Memᴰ·not-nil}
 use lib.ListN.{length, replicate}
-use Rattle.machine.specs.Laws.Order.{Ordered}
+use Rattle.machine.specs.Order.{Ordered}
 use Rattle.machine.specs.Machine.{Entry, State, marked, pass, passes, renew, finish, isEmpty, unread, start, machine}
 use Rattle.window.specs.Work.{entries, stateOf, stateAt}
 use Rattle.passes.specs.Passes.{PassReady, Passed, RunReady, Ran}

@@ -4,7 +4,7 @@ use mathlib.Core.Path.{_≡_}
 use mathlib.Core.Bool.{Bool}
 use mathlib.Core.List.{List}
 use lib.ListN.{getD, length}
-use Rattle.machine.specs.Laws.Order.{Ordered}
+use Rattle.machine.specs.Order.{Ordered}
 use Rattle.machine.specs.Machine.{pass, passes}
 use Rattle.window.specs.Work.{entries, stateOf, stateAt}
 use Rattle.window.specs.declared.Standing.{Standing}

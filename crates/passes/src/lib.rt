@@ -6,7 +6,7 @@ ghost use Prim.Native.Nat.{ℕ, _+_, _*_, _≤_};
 ghost use mathlib.Core.List.{map};
 ghost use lib.ListN.{length, replicate};
 ghost use Rattle.machine.specs.Machine.{marked, unread, machine};
-ghost use Rattle.machine.specs.Laws.Order.{Ordered};
+ghost use Rattle.machine.specs.Order.{Ordered};
 ghost use Rattle.window.specs.Work.{tableDominates, entries, stateAt};
 ghost use Rattle.passes.specs.Passes.{Waits, PassReady, Passed, RunReady, Ran};
 

@@ -7,8 +7,8 @@ use mathlib.Core.List.{List, [], _∷_, List·Memᴰ·head, List·Memᴰ·tail, 
 use mathlib.Core.Logic.{⊎-elim}
 use lib.ListN.{getD, length}
 use borrow.Author.Tests.{le-ltb}
-use Rattle.machine.specs.Laws.Lists.{Mem, keep-none}
-use Rattle.machine.specs.Laws.Order.{Rising}
+use Rattle.machine.specs.Order.{Mem, Rising}
+use Rattle.machine.specs.Laws.Lists.{keep-none}
 use Rattle.machine.specs.Machine.{Entry, State, keep, marked, older, younger, release, judge, read}
 use Rattle.window.specs.Work.{entryAt, entries, stateOf, stateAt, Filtered, Released, Ready, Judged, Read}
 use Rattle.window.specs.declared.Standing.{Standing}

@@ -6,7 +6,7 @@ ghost use mathlib.Core.Bool.{Bool};
 ghost use lib.ListN.{getD, set, length};
 ghost use Rattle.pareto.specs.Table.{compared};
 ghost use Rattle.machine.specs.Machine.{Entry};
-ghost use Rattle.machine.specs.Laws.Order.{Rising};
+ghost use Rattle.machine.specs.Order.{Rising};
 ghost use Rattle.window.specs.Work.{tableDominates, entries, putEntry, Filtered, Released, Flags, Fronted, Scanned, Ready, Judged, Read};
 
 // ---- the lent lists: a place past the end reads as 0, and a store there does nothing

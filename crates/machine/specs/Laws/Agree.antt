@@ -8,7 +8,8 @@ use lib.Dec.{ltb}
 use lib.ListN.{length}
 use Rattle.laws.specs.Lists.{anyOf}
 use Rattle.machine.specs.Machine.{Entry, State, keep, younger, release, dominated, compares, tick, spares, remove, enter, setAside, place, judge, read, pass, renew, finish, isEmpty, passes, unread, enough, start, machine}
-use Rattle.machine.specs.Laws.Lists.{Mem, keep-in, keep-cong}
+use Rattle.machine.specs.Order.{Mem}
+use Rattle.machine.specs.Laws.Lists.{keep-in, keep-cong}
 
 -- every row is below n
 abbrev Below : ℕ → List Entry → Type 0

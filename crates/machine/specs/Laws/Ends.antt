@@ -10,7 +10,8 @@ use mathlib.Core.List.{List, [], _∷_, _++_, map, append-assoc, append-nil, Lis
 use lib.ListN.{length, length-append, length-map}
 use lib.Dec.{ltb}
 use borrow.Author.Tests.{ltb-false, lt-ltb}
-use Rattle.machine.specs.Laws.Lists.{Mem, keep-in, keep-shorter, keep-fewer, keep-twice, keep-append, keep-none}
+use Rattle.machine.specs.Order.{Mem, Stamped}
+use Rattle.machine.specs.Laws.Lists.{keep-in, keep-shorter, keep-fewer, keep-twice, keep-append, keep-none}
 use Rattle.machine.specs.Machine.{Entry, State, keep, older, younger, release, dominated, compares, spares, tick, remove, enter, setAside, place, judge, read, pass, renew, finish, isEmpty, passes, unread, enough, start, machine}
 
 -- the number of pairs among n things
@@ -52,10 +53,6 @@ compares-le dom r (e ∷ W) = go (compares-le dom r W) (dom (e .row) r)
     go : compares dom r W ≤ length W → (b : Bool) → suc (cond b 0 (compares dom r W)) ≤ suc (length W)
     go h true = omega arith
     go h false = omega arith
-
--- no timestamp of the window is above the clock
-abbrev pub Stamped : List Entry → ℕ → Type 0
-Stamped W t = (e : Entry) → Mem e W → e .timestamp ≤ t
 
 pairs-fresh : (W : List Entry) (r t : ℕ) → Stamped W t → pairs (record { row = r; timestamp = t + 1 } ∷ []) W ≡ 0
 unfolding pairs younger older

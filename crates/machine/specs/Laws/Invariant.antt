@@ -8,7 +8,8 @@ use mathlib.Core.List.{List, [], _∷_, _++_, append-assoc, List·Memᴰ·head, 
 use lib.ListN.{length, getD}
 use lib.Dec.{ltb}
 use borrow.Author.Tests.{ltb-true, not-true}
-use Rattle.machine.specs.Laws.Lists.{Mem, Out, RowOf, keep-in, in-keep, length-marked, marked-bits, marked-old, marked-new, marked-cases}
+use Rattle.machine.specs.Order.{Mem}
+use Rattle.machine.specs.Laws.Lists.{Out, RowOf, keep-in, in-keep, length-marked, marked-bits, marked-old, marked-new, marked-cases}
 use Rattle.machine.specs.Laws.Members.{any-member, member-none}
 use Rattle.machine.specs.Machine.{Entry, State, keep, marked, older, younger, release, dominated, spares, tick, remove, enter, setAside, place, judge, read, pass}
 

@@ -4,14 +4,12 @@ use native.Mathlib.Omega.{arith}
 use mathlib.Core.Path.{_≡_, refl, sym, ap, _∙_}
 use mathlib.Core.Logic.{_⊎_, inl, inr, ⊎-elim}
 use mathlib.Core.Bool.{Bool, true, false, cond, true≢false}
-use mathlib.Core.List.{List, [], _∷_, _++_, List·Memᴰ, List·Memᴰ·head, List·Memᴰ·tail, List·Memᴰ·not-nil, List·Memᴰ·cases-cons}
+use mathlib.Core.List.{List, [], _∷_, _++_, List·Memᴰ·head, List·Memᴰ·tail, List·Memᴰ·not-nil, List·Memᴰ·cases-cons}
 use lib.ListN.{length, set, getD, length-set}
 use lib.Seq.{getD-set-same, getD-set-other, set-out}
 use native.Mathlib.Decide.{ℕ-discrete, decLt}
 use Rattle.machine.specs.Machine.{Entry, keep, marked}
-
-abbrev pub Mem : Entry → List Entry → Type 0
-Mem e es = List·Memᴰ e es
+use Rattle.machine.specs.Order.{Mem}
 
 pub keep-in : (p : Entry → Bool) (es : List Entry) {e : Entry} → Mem e (keep p es) → Mem e es × (p e ≡ true)
 unfolding keep

@@ -14,7 +14,8 @@ use Rattle.laws.specs.Laws.Joined.{singles-at, singles-length}
 use Rattle.machine.specs.Machine.{Entry, State, marked, pass, renew, finish, isEmpty, passes, unread, enough, start, machine}
 use Rattle.machine.specs.Laws.Ends.{ends, machine-ends}
 use Rattle.machine.specs.Laws.Invariant.{Alive, out, held, waits, Sorted, Apart, Reaches, Inv, InvS, passed}
-use Rattle.machine.specs.Laws.Lists.{Mem, Out, RowOf, length-marked, marked-bits, marked-old, marked-new, marked-cases}
+use Rattle.machine.specs.Order.{Mem}
+use Rattle.machine.specs.Laws.Lists.{Out, RowOf, length-marked, marked-bits, marked-old, marked-new, marked-cases}
 use Rattle.machine.specs.Laws.Members.{any-member, member-any, member-none}
 
 -- row r is in the list, and no row of the list dominates it

@@ -7,14 +7,9 @@ use mathlib.Core.Bool.{Bool, true, false, cond}
 use mathlib.Core.List.{List, [], _∷_, _++_, List·Memᴰ·head, List·Memᴰ·tail, List·Memᴰ·not-nil, List·Memᴰ·append-cases, List·Memᴰ·eq-of-singleton}
 use lib.ListN.{length}
 use lib.Dec.{ltb}
-use Rattle.machine.specs.Laws.Ends.{Stamped}
-use Rattle.machine.specs.Laws.Lists.{Mem, keep-in}
+use Rattle.machine.specs.Order.{Mem, Rising, Ordered}
+use Rattle.machine.specs.Laws.Lists.{keep-in}
 use Rattle.machine.specs.Machine.{Entry, State, keep, younger, release, dominated, spares, tick, remove, enter, setAside, place, judge, read, pass, start}
-
--- each timestamp is below those behind it
-abbrev pub Rising : List Entry → Type 0
-Rising [] = Unit {0}
-Rising (x ∷ xs) = ((e : Entry) → Mem e xs → x .timestamp < e .timestamp) × Rising xs
 
 keep-rising : (p : Entry → Bool) (es : List Entry) → Rising es → Rising (keep p es)
 unfolding keep
@@ -31,11 +26,6 @@ push-rising (y ∷ es) x r h = (
   (λ e k. ⊎-elim (λ k′. r .0 e k′) (λ k′. omega (arith, ap (λ (z : Entry). z .timestamp) (List·Memᴰ·eq-of-singleton k′), h y (List·Memᴰ·head refl))) (List·Memᴰ·append-cases es k)),
   push-rising es x (r .1) (λ e k. h e (List·Memᴰ·tail k)),
 )
-
--- between two reads: the window's timestamps rise, and none is above the clock
-pub record Ordered (st : State) : Type 0 where
-  pub rises : Rising (st .window)
-  pub given : Stamped (st .window) (st .clock)
 
 module _ (dom : ℕ → ℕ → Bool) (w : ℕ) where
   pub read-ordered : (x : Entry) (st : State) → Ordered st → Ordered (read dom w x st)
