@@ -1,12 +1,16 @@
+use mathlib.Core.Path.{sym, _∙_}
 use borrow.Author.Needs.{needs}
-use borrow.Author.Tests.{eq-eqb, ne-eqb}
-use Rattle.lattice.specs.Numbers.{numberFrom}
+use borrow.Author.Tests.{not-true, not-false}
+use Rattle.lattice.specs.Numbers.{numberBy}
 use Rattle.lattice.proofs.number_at.Statement.{statement}
 use Rattle.lattice.proofs.number_at.Tie as tie
 
+row-competes-requires : tie.Need-row-competes-requires
+row-competes-requires c κs = search needs
+
 returns : tie.Need-returns
-unfolding numberFrom
-returns c = rw (eq-eqb (c .before .before .before .args .before) 65535 (c .if1 .taken))
+unfolding numberBy
+returns c = rw (sym (c .before .row-competes .ensures) ∙ not-true (c .before .row-competes .result) (c .if1 .taken))
 
 mul-node-of : tie.Need-mul-node-of
 mul-node-of c = search needs
@@ -15,8 +19,10 @@ node-of-requires : tie.Need-node-of-requires
 node-of-requires c κs = search needs
 
 returns-2 : tie.Need-returns-2
-unfolding numberFrom
-returns-2 c = rw (ne-eqb (c .before .before .before .before .args .before) 65535 (c .before .if1 .left)) (c .node-of .ensures)
+unfolding numberBy
+returns-2 c =
+    let b = c .before in
+    rw (sym (b .before .row-competes .ensures) ∙ not-false (b .before .row-competes .result) (b .if1 .left)) (c .node-of .ensures)
 
 pub number-at-spec : {M : Type 1} → statement M
-number-at-spec = tie.close (tie.spec returns mul-node-of node-of-requires returns-2)
+number-at-spec = tie.close (tie.spec row-competes-requires returns mul-node-of node-of-requires returns-2)

@@ -1,12 +1,11 @@
 use mathlib.Core.Path.{_≡_, sym, ap, _∙_}
 use mathlib.Core.Bool.{Bool}
 use mathlib.Core.List.{List, _++_}
-use Prim.Native.Nat.{ℕ, _+_, _-_, _≤_}
+use Prim.Native.Nat.{ℕ, _≤_}
 use native.Mathlib.Omega.{arith}
 use borrow.Author.Needs.{needs}
-use lib.ListN.{length, take, drop, replicate, length-append, length-replicate, replicate-append-replicate}
+use lib.ListN.{length, take, drop, replicate, length-append, length-replicate}
 use lib.Seq.{length-take-le, take-at}
-use Rattle.runs.specs.Log.{rowCount}
 use Rattle.runs.specs.Laws.Log.{accepted}
 use Rattle.preference.specs.declared.PreferenceList.{PreferenceList}
 use Rattle.nodes.specs.Lattice.{nodeCount}
@@ -17,8 +16,8 @@ use Rattle.lattice.specs.Numbers.{Weighed}
 use Rattle.lattice.proofs.walk_rows.Statement.{statement}
 use Rattle.lattice.proofs.walk_rows.Tie as tie
 
-abbrev none : List ℕ
-none = replicate 1024 65535
+abbrev zeros : List ℕ
+zeros = replicate 1024 0
 
 abbrev rows : tie.Start → ℕ
 rows s = length (s .args .marks .now)
@@ -26,56 +25,21 @@ rows s = length (s .args .marks .now)
 few : (s : tie.Start) → rows s ≤ 1024
 few s = omega (arith, accepted (s .args .log .now) (s .pre .1 .0) .few)
 
-front : (s : tie.Start) → length (take (rows s) none) ≡ rows s
-front s = length-take-le (rows s) none (omega (arith, few s, length-replicate {A = ℕ} 1024 65535))
-
--- no row has a number yet
-unnumbered : (s : tie.Start) → take (rows s) none ≡ replicate (rowCount (s .args .log .now)) 65535
-unnumbered s =
-    let e : 1024 ≡ rows s + (1024 - rows s) = omega (arith, few s) in
-    ap (λ (n : ℕ). take (rows s) (replicate n 65535)) e
-    ∙ ap (take (rows s)) (sym (replicate-append-replicate (rows s) (1024 - rows s) 65535))
-    ∙ take-at (replicate (rows s) 65535) (replicate (1024 - rows s) 65535) (rows s) (length-replicate (rows s) 65535)
-    ∙ ap (λ (n : ℕ). replicate n 65535) (s .pre .1 .1 .1 .1)
-
--- the numbers once the competing rows have 0
-module _ (o : tie.After-open-competing) where
-  abbrev begun : tie.Start
-  begun = o .before .before .before .before .before
-
-  abbrev opened : List ℕ
-  opened = o .open-competing .last .1 .0
-
-  opened-long : length opened ≡ rows begun
-  opened-long = o .open-competing .kept .1 .0 ∙ front begun
-
-  abbrev held : List ℕ
-  held = opened ++ drop (rows begun) none
-
-  held-long : rows begun ≤ length held
-  held-long = rw (length-append opened) (omega (arith, opened-long))
-
-  held-front : take (rows begun) held ≡ opened
-  held-front = take-at opened (drop (rows begun) none) (rows begun) opened-long
-
-  held-fits : length (take (rows begun) held) ≡ rows begun
-  held-fits = length-take-le (rows begun) held held-long
+front : (s : tie.Start) → length (take (rows s) zeros) ≡ rows s
+front s = length-take-le (rows s) zeros (omega (arith, few s, length-replicate {A = ℕ} 1024 0))
 
 -- the node numbers
 abbrev numbers : tie.After-fill-numbers → List ℕ
 numbers f = f .fill-numbers .last .1 .1 .1 .0
 
-abbrev before : tie.After-fill-numbers → tie.After-open-competing
-before f = f .before .before .before
-
 abbrev start : tie.After-fill-numbers → tie.Start
-start f = begun (before f)
+start f = f .before .before .before .before .before
 
 numbers-long : (f : tie.After-fill-numbers) → length (numbers f) ≡ rows (start f)
-numbers-long f = f .fill-numbers .kept .1 .1 .1 .0 ∙ held-fits (before f)
+numbers-long f = f .fill-numbers .kept .1 .1 .1 .0 ∙ front (start f)
 
-numbers-front : (f : tie.After-fill-numbers) → take (rows (start f)) (numbers f ++ drop (rows (start f)) (held (before f))) ≡ numbers f
-numbers-front f = take-at (numbers f) (drop (rows (start f)) (held (before f))) (rows (start f)) (numbers-long f)
+numbers-front : (f : tie.After-fill-numbers) → take (rows (start f)) (numbers f ++ drop (rows (start f)) zeros) ≡ numbers f
+numbers-front f = take-at (numbers f) (drop (rows (start f)) zeros) (rows (start f)) (numbers-long f)
 
 -- what the engine promises, told of what its arguments are
 told : (w w′ x x′ : List ℕ) (n n′ budget : ℕ) (marks : List ℕ) (ok : Bool) (made : ℕ) (marks′ nodes′ : List ℕ) → w ≡ w′ → x ≡ x′ → n ≡ n′
@@ -93,23 +57,13 @@ small l weights n w e =
 array-borrow-prefix-numbers : tie.Need-array-borrow-prefix-numbers
 array-borrow-prefix-numbers c = few (c .before .before .before)
 
-slice-aggregate-open-competing : tie.Need-slice-aggregate-open-competing
-slice-aggregate-open-competing c = sym (front (c .before .before .before .before))
-
-open-competing-requires : tie.Need-open-competing-requires
-open-competing-requires c κs = let s = c .before .before .before .before in (s .pre .1 .0, unnumbered s)
-
-array-borrow-prefix-numbers-2 : tie.Need-array-borrow-prefix-numbers-2
-array-borrow-prefix-numbers-2 c = held-long (c .before)
-
 slice-aggregate-fill-numbers : tie.Need-slice-aggregate-fill-numbers
-slice-aggregate-fill-numbers c = sym (held-fits (c .before .before))
+slice-aggregate-fill-numbers c = sym (front (c .before .before .before .before))
 
 fill-numbers-requires : tie.Need-fill-numbers-requires
 fill-numbers-requires c κs =
-    let o = c .before .before in
-    let s = begun o in
-    (s .pre .0, (s .pre .1 .0, (s .pre .1 .1 .0, held-front o ∙ o .open-competing .ensures)))
+    let s = c .before .before .before .before in
+    (s .pre .0, (s .pre .1 .0, (s .pre .1 .1 .0, front s ∙ s .pre .1 .1 .1 .1)))
 
 array-share-prefix-numbers : tie.Need-array-share-prefix-numbers
 array-share-prefix-numbers c = rw (length-append (numbers (c .before))) (omega (arith, numbers-long (c .before)))
@@ -141,9 +95,6 @@ walk-rows-spec =
     tie.close
     (tie.spec
     array-borrow-prefix-numbers
-    slice-aggregate-open-competing
-    open-competing-requires
-    array-borrow-prefix-numbers-2
     slice-aggregate-fill-numbers
     fill-numbers-requires
     array-share-prefix-numbers
