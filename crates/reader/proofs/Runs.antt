@@ -13,7 +13,8 @@ use Rattle.laws.specs.Checks.{_gives_, _then_}
 use Rattle.preference.specs.declared.PreferenceList.{PreferenceList}
 use Rattle.format.specs.Kinds.{kind, kinds, kindOf, kindByte}
 use Rattle.format.specs.Read.{isUnknown, outOfPlace, figuresNumber, recordNumber, listAfter, rowsAfter, withRecord, goes, step}
-use Rattle.format.specs.Laws.Read.{Midway, toRead, step-goes, midway-step, to-read-falls}
+use Rattle.format.specs.Midway.{Midway, toRead}
+use Rattle.format.specs.Laws.Read.{step-goes, midway-step, to-read-falls}
 use Rattle.format.specs.declared.Class.the-variants.{RunRecord}
 use Rattle.format.specs.declared.Kind.{Kind}
 use Rattle.format.specs.declared.ReadAnswer.{ReadAnswer}

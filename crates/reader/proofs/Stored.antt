@@ -12,7 +12,8 @@ use Rattle.laws.specs.Laws.Stores.{sets-append}
 use Rattle.format.specs.Kinds.{classOf, bodyOf}
 use Rattle.format.specs.Read.{refusedAt, withRecord, goes, start, records, readOf, valuesUnder, valuesFrom, valuesOf}
 use Rattle.format.specs.Laws.Accepted.{read-accepted}
-use Rattle.format.specs.Laws.Read.{Midway, accepts, step-goes, midway-start, midway-step, midway-end}
+use Rattle.format.specs.Midway.{Midway}
+use Rattle.format.specs.Laws.Read.{accepts, step-goes, midway-start, midway-step, midway-end}
 use Rattle.format.specs.Laws.Rows.{values-fit}
 use Rattle.format.specs.Laws.Values.{values-end}
 use Rattle.format.specs.declared.ReadAnswer.{ReadAnswer}

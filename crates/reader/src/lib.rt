@@ -14,8 +14,7 @@ ghost use lib.Seq.{sets};
 ghost use Rattle.word.specs.Word.{intAt};
 ghost use Rattle.format.specs.Kinds.{classOf, bodyOf};
 ghost use Rattle.format.specs.Read.{constructorOf, preferenceOf, namedOf, intsAt, lastConstructor, endsLayered, outOfPlace, namingNumber, figuresNumber, isUnknown, recordNumber, zeroList, addPreference, addNamed, listAfter, rowsAfter, refusedAt, goes, step, records, finish, readOf, valuesUnder, valuesOf, logAfter};
-ghost use Rattle.format.specs.Laws.Columns.{Columns};
-ghost use Rattle.format.specs.Laws.Read.{Midway, toRead};
+ghost use Rattle.format.specs.Midway.{Columns, toRead, Midway};
 ghost use Rattle.format.specs.declared.Class.the-variants.{PreferenceRecord, NamedRecord, RunRecord};
 
 // ---- the kinds

@@ -11,7 +11,8 @@ use borrow.Author.Tests.{ltb-false, eqb-true, eqb-false}
 use Rattle.laws.specs.Checks.{_gives_}
 use Rattle.laws.specs.Laws.Checks.{gives-none, then-none}
 use Rattle.format.specs.Read.{unlessRefused, withRecord, step, steps, start, records, endNumber, finish, readOf}
-use Rattle.format.specs.Laws.Read.{accepts, going, step-keeps, steps-keep, Enough, enough-step}
+use Rattle.format.specs.Midway.{Enough}
+use Rattle.format.specs.Laws.Read.{accepts, going, step-keeps, steps-keep, enough-step}
 use Rattle.format.specs.declared.ReadAnswer.{ReadAnswer}
 
 all-read : (n : ℕ) (s : List ℕ) (r : ReadAnswer) → Enough s r n → Enough s (steps n s r) 0

@@ -16,15 +16,8 @@ use Rattle.preference.specs.Laws.Valid.{PreferenceAccepted, preference-accepted
 use Rattle.preference.specs.declared.Preference.{Preference}
 use Rattle.preference.specs.declared.PreferenceList.{PreferenceList}
 use Rattle.format.specs.Read.{zeroList, addPreference}
-use Rattle.format.specs.Laws.Pigeons.{Low, Apart, pigeons, fewer}
-
-abbrev pub columnAt : PreferenceList → ℕ → ℕ
-columnAt l i = preferenceAt l i .column
-
-pub record Columns (l : PreferenceList) : Type 0 where
-  pub places : length (l .preferences) ≡ 8
-  pub low : Low (columnAt l) (l .count) 8
-  pub apart : Apart (columnAt l) (l .count)
+use Rattle.format.specs.Midway.{columnAt, Columns}
+use Rattle.format.specs.Laws.Pigeons.{pigeons, fewer}
 
 pub columns-few : (l : PreferenceList) → Columns l → l .count ≤ 8
 columns-few l h = pigeons 8 (l .count) (columnAt l) (h .low) (h .apart)

@@ -18,7 +18,8 @@ use Rattle.preference.specs.declared.PreferenceList.{PreferenceList}
 use Rattle.format.specs.Kinds.{kinds, kindOf, kindByte, classOf, bodyOf}
 use Rattle.format.specs.Read.{constructorOf, preferenceOf, lastConstructor, isLayers, endsLayered, outOfPlace, isUnknown, addPreference, withRecord, step, start, records, readOf}
 use Rattle.format.specs.Laws.Kinds.{longest, body-longest}
-use Rattle.format.specs.Laws.Columns.{Columns, columns-zero, columns-few}
+use Rattle.format.specs.Midway.{Columns}
+use Rattle.format.specs.Laws.Columns.{columns-zero, columns-few}
 use Rattle.format.specs.Laws.Read.{Accepts, accepts, preference-room, named-room, run-room, going, step-keeps, steps-keep, columns-step}
 use Rattle.format.specs.Laws.Accepted.{read-accepted, records-end}
 use Rattle.format.specs.declared.Class.{Class}

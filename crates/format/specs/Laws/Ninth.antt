@@ -12,7 +12,8 @@ use Rattle.preference.specs.Valid.{taken, columnNumber, preferenceNumber}
 use Rattle.preference.specs.declared.PreferenceList.{PreferenceList}
 use Rattle.format.specs.Kinds.{classOf, bodyOf}
 use Rattle.format.specs.Read.{preferenceOf, outOfPlace, figuresNumber, recordNumber, steps, start}
-use Rattle.format.specs.Laws.Columns.{Columns, columns-free}
+use Rattle.format.specs.Midway.{Columns}
+use Rattle.format.specs.Laws.Columns.{columns-free}
 use Rattle.format.specs.Laws.Read.{columns-steps}
 use Rattle.format.specs.declared.Class.the-variants.{PreferenceRecord}
 use Rattle.format.specs.declared.ReadAnswer.{ReadAnswer}

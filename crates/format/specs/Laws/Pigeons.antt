@@ -7,12 +7,7 @@ use native.Mathlib.Decide.{decLt}
 use mathlib.Core.Bool.{cond}
 use borrow.Author.Tests.{lt-ltb, le-ltb}
 use lib.Dec.{ltb}
-
-abbrev pub Low : (ℕ → ℕ) → ℕ → ℕ → Type 0
-Low f n m = (i : ℕ) → i < n → f i < m
-
-abbrev pub Apart : (ℕ → ℕ) → ℕ → Type 0
-Apart f n = (i j : ℕ) → i < j → j < n → f i ≡ f j → ⊥
+use Rattle.format.specs.Midway.{Low, Apart}
 
 -- the numbers other than v, moved together
 unfoldable without : ℕ → ℕ → ℕ

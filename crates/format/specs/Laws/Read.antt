@@ -13,7 +13,8 @@ use Rattle.laws.specs.Laws.Checks.{gives-none, then-none}
 use Rattle.constructor.specs.Valid.{layerNumber}
 use Rattle.format.specs.Kinds.{classOf, bodyOf}
 use Rattle.format.specs.Read.{preferenceOf, lastConstructor, outOfPlace, namingNumber, figuresNumber, isUnknown, recordNumber, listAfter, refusedAt, unlessRefused, withRecord, takeRecord, goes, step, steps, start, records}
-use Rattle.format.specs.Laws.Columns.{Columns, columns-zero, columns-room, columns-added}
+use Rattle.format.specs.Midway.{Columns, toRead, Enough, Midway}
+use Rattle.format.specs.Laws.Columns.{columns-zero, columns-room, columns-added}
 use Rattle.format.specs.declared.Class.{Class}
 use Rattle.format.specs.declared.Class.the-variants.{Unknown, PreferenceRecord, NamedRecord, RunRecord}
 use Rattle.format.specs.declared.ReadAnswer.{ReadAnswer}
@@ -117,15 +118,12 @@ steps-ended (suc n) s r e =
     let still : step s r ≡ r = rw e in
     ap (steps n s) still ∙ steps-ended n s r e
 
--- what is left to read falls with each step
-unfoldable pub toRead : List ℕ → ReadAnswer → ℕ
-toRead s r = cond (eqb (r .number) 0) (suc (length s) - r .place) 0
-
 pub going : (s : List ℕ) (r : ReadAnswer) → goes s r ≡ true → (r .number ≡ 0) × (r .place < length s)
 going s r e =
     let h = both (eqb (r .number) 0) (ltb (r .place) (length s)) e in
     (eqb-true (r .number) 0 (h .0), ltb-true (r .place) (length s) (h .1))
 
+-- what is left to read falls with each step
 pub to-read-falls : (s : List ℕ) (r : ReadAnswer) → goes s r ≡ true → toRead s (step s r) < toRead s r
 unfolding toRead withRecord
 to-read-falls s r e =
@@ -135,10 +133,6 @@ to-read-falls s r e =
 stopped : (s : List ℕ) (r : ReadAnswer) → goes s r ≡ false → r .number ≡ 0 → length s ≤ r .place
 stopped s r e z = ltb-false (r .place) (length s) (rw (eq-eqb (r .number) 0 z) at e)
 
--- n steps are enough for what is left
-abbrev pub Enough : List ℕ → ReadAnswer → ℕ → Type 0
-Enough s r n = r .number ≡ 0 → length s ≤ r .place + n
-
 pub enough-step : (s : List ℕ) (r : ReadAnswer) (n : ℕ) → Enough s r (suc n) → Enough s (step s r) n
 unfolding withRecord
 enough-step s r n h =
@@ -146,13 +140,6 @@ enough-step s r n h =
     (λ g e z. omega (arith, h (going s r g .0)))
     (λ k n z. absurd (omega arith))
     (λ g z. omega (arith, stopped s r g z))
-
--- reading at r: the steps that are left give what the whole stream gives, and are enough
-pub record Midway (s : List ℕ) (r : ReadAnswer) : Type 0 where
-  pub left : ℕ
-  pub whole : steps left s r ≡ records s
-  pub enough : Enough s r left
-  pub columns : Columns (r .list)
 
 pub midway-start : (s : List ℕ) → Midway s start
 unfolding records

@@ -4,7 +4,7 @@ use mathlib.Core.Path.{_≡_}
 use native.Mathlib.Nat.{pos-of-ne-zero, le-refl, le-trans, le-of-lt}
 use lib.ListN.{length, getD}
 use denote.Ref.{now}
-use Rattle.format.specs.Laws.Read.{Midway, toRead}
+use Rattle.format.specs.Midway.{Midway, toRead}
 use Rattle.reader.proofs.Runs.{reading, is-reading, midway-run, run-falls}
 use Rattle.reader.proofs.over_runs.Statement.{statement}
 use Rattle.reader.proofs.over_runs.Tie as tie

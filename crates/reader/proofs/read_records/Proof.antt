@@ -1,6 +1,7 @@
 use native.Mathlib.Nat.{lt-of-le-of-lt}
 use denote.Ref.{now}
-use Rattle.format.specs.Laws.Read.{Midway, toRead, to-read-falls, midway-start, midway-step, midway-end}
+use Rattle.format.specs.Midway.{Midway, toRead}
+use Rattle.format.specs.Laws.Read.{to-read-falls, midway-start, midway-step, midway-end}
 use Rattle.reader.proofs.read_records.Statement.{statement}
 use Rattle.reader.proofs.read_records.Tie as tie
 

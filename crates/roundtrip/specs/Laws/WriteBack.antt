@@ -28,7 +28,8 @@ use Rattle.runs.specs.Laws.Log.{accepted-rows}
 use Rattle.format.specs.Kinds.{classOf, bodyOf}
 use Rattle.format.specs.Read.{goes, preferenceOf, namedOf, intsAt, lastConstructor, isLayers, endsLayered, outOfPlace, namingNumber, figuresNumber, isUnknown, zeroList, addPreference, addNamed, withRecord, steps, start, records, readOf, valuesUnder, valuesFrom, valuesOf}
 use Rattle.format.specs.Write.{preferenceBytes, namedBytes, runBytes, rowBytes, streamOf}
-use Rattle.format.specs.Laws.Columns.{Columns, columns-zero, columns-few, columns-added}
+use Rattle.format.specs.Midway.{Columns}
+use Rattle.format.specs.Laws.Columns.{columns-zero, columns-few, columns-added}
 use Rattle.format.specs.Laws.Read.{Accepts, accepts, preference-room, named-room, run-room, step-goes, steps-ended}
 use Rattle.format.specs.Laws.Values.{values-end}
 use Rattle.format.specs.Laws.Rows.{refused-stays}
