@@ -2,11 +2,12 @@
 use Prim.Native.Nat.{ℕ, zero, suc, _+_, _*_, _<_, _≤_}
 use mathlib.Core.List.{List}
 use lib.ListN.{set}
+use Rattle.limits.specs.Limits.{columns}
 
 -- a table, eight places to a row, with column k of its first n rows set to f 0, .., f (n - 1)
 unfoldable pub withPart : (ℕ → ℕ) → ℕ → ℕ → List ℕ → List ℕ
 withPart f k zero table = table
-withPart f k (suc n) table = set (withPart f k n table) (8 * n + k) (f n)
+withPart f k (suc n) table = set (withPart f k n table) (columns * n + k) (f n)
 
 -- a table with columns 0 to k - 1 of its first n rows set, to f k r in column k of row r
 unfoldable pub withParts : (ℕ → ℕ → ℕ) → ℕ → ℕ → List ℕ → List ℕ
@@ -16,5 +17,5 @@ withParts f (suc k) n table = withPart (f k) k n (withParts f k n table)
 -- m of n rows are those that have column k of a table
 pub record RowsIn (n table k m : ℕ) : Type 0 where
   pub few : m ≤ n
-  pub within : (r : ℕ) → r < m → 8 * r + k < table
-  pub beyond : (r : ℕ) → m ≤ r → r < n → table ≤ 8 * r + k
+  pub within : (r : ℕ) → r < m → columns * r + k < table
+  pub beyond : (r : ℕ) → m ≤ r → r < n → table ≤ columns * r + k

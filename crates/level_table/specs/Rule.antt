@@ -10,6 +10,7 @@ use Rattle.constructor.specs.Level.{scaleOf, targetOf, layeringOf}
 use Rattle.constructor.specs.declared.Layering.the-variants.{Numeric}
 use Rattle.preference.specs.List.{preferenceAt}
 use Rattle.preference.specs.Level.{layerOf}
+use Rattle.limits.specs.Limits.{levelCount}
 use Rattle.runs.specs.Log.{rowAt}
 use Rattle.preference.specs.Names.{among}
 use Rattle.preference.specs.Parts.{levels, maxLevels, partOf}
@@ -40,4 +41,4 @@ pub record Layered (l : PreferenceList) (k others : ℕ) : Type 0 where
 
 -- the layer of row r among named values, in 16 bits
 abbrev pub rowLayer : List ℤ → List ℕ → ℕ → ℕ → List ℤ → ℕ → ℕ → ℕ
-rowLayer values layers count others log column r = among values layers count (getD (rowAt log r) column (pos 0)) others % 65536
+rowLayer values layers count others log column r = among values layers count (getD (rowAt log r) column (pos 0)) others % levelCount

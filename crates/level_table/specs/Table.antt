@@ -4,6 +4,7 @@ use Prim.Native.Nat.{ℕ, _*_, _/_, _%_}
 use mathlib.Core.List.{List, [], _∷_}
 use lib.IntN.{ℤ}
 use lib.ListN.{getD}
+use Rattle.limits.specs.Limits.{columns, levelCount}
 use Rattle.laws.specs.Lists.{joined}
 use Rattle.runs.specs.Log.{rowCount, rowAt}
 use Rattle.preference.specs.Parts.{levels}
@@ -11,12 +12,12 @@ use Rattle.preference.specs.declared.PreferenceList.{PreferenceList}
 
 -- part k of the level vector of row r, in 16 bits; levels of an accepted list fit (Laws/Table.antt)
 abbrev pub partAt : PreferenceList → List ℤ → ℕ → ℕ → ℕ
-partAt l log k r = getD (levels l (rowAt log r)) k 0 % 65536
+partAt l log k r = getD (levels l (rowAt log r)) k 0 % levelCount
 
 -- how many numbers the table has
 unfoldable pub tableLength : PreferenceList → List ℤ → ℕ
-tableLength l log = 8 * rowCount log
+tableLength l log = columns * rowCount log
 
 -- place i of the table is part i % 8 of row i / 8
 unfoldable pub tableOf : PreferenceList → List ℤ → List ℕ
-tableOf l log = joined (λ i. partAt l log (i % 8) (i / 8) ∷ []) (tableLength l log)
+tableOf l log = joined (λ i. partAt l log (i % columns) (i / columns) ∷ []) (tableLength l log)

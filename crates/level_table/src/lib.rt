@@ -55,25 +55,22 @@ fn rule_of(list: PreferenceList, k: usize) -> Rule
 }
 
 // The rows of a log that have column k of a table.
-fn rows_in(log: usize, table: usize, k: usize) -> usize
-    ensures { λ r. ⌜ RowsIn (log / 8) table k r ⌝ }
+fn rows_in(log: &[i32], table: usize, k: usize) -> usize
+    ensures { λ r. ⌜ RowsIn (rowCount (now (log .entry))) table k r ⌝ }
 {
     if table <= k {
         return 0;
     }
-    let held = (table - k - 1) / 8 + 1;
-    let rows = log / 8;
+    let held = (table - k - 1) / limits::COLUMNS + 1;
+    let rows = runs::row_count(log);
     if rows <= held { rows } else { held }
 }
 
-// The value at a column of row r, which is handed on as the part of the log that begins at 8 × its number.
+// The value at a column of row r.
 fn value_at(log: &[i32], r: usize, column: usize) -> i32
-    requires { ⌜ r < length (now log) / 8 ⌝ }
     ensures { λ v. ⌜ v ≡ getD (rowAt (now (log .entry)) r) column (pos 0) ⌝ }
 {
-    let start = 8 * r;
-    let end = start + 8;
-    levels::value_in(&log[start..end], column)
+    levels::value_in(runs::row(log, r), column)
 }
 
 // Part k of a form that goes by distance, into a column of a table: for each row a value, two differences, a division
@@ -89,12 +86,12 @@ fn fill_distances(list: PreferenceList, log: &[i32], k: usize, into: usize, tabl
     let low = rule.low;
     let up = rule.up;
     let step = rule.step;
-    let n = rows_in(log.len(), table.len(), into);
+    let n = rows_in(log, table.len(), into);
     let mut r: usize = 0;
     while r < n {
         let v = value_at(log, r, column);
         let level = constructor::level_outside(low, up, step, v);
-        table[8 * r + into] = (level % 65536) as u16;
+        table[limits::COLUMNS * r + into] = (level % limits::LEVEL_COUNT) as u16;
         r += 1;
     }
 }
@@ -115,12 +112,12 @@ fn fill_named(
         ≡ withPart (rowLayer (now (values .entry)) (now (layers .entry)) count others (now (log .entry)) column)
         into (rowCount (now (log .entry))) (now (table .entry)) ⌝ }
 {
-    let n = rows_in(log.len(), table.len(), into);
+    let n = rows_in(log, table.len(), into);
     let mut r: usize = 0;
     while r < n {
         let v = value_at(log, r, column);
         let layer = levels::layer_among(values, layers, count, v, others);
-        table[8 * r + into] = layer as u16;
+        table[limits::COLUMNS * r + into] = layer as u16;
         r += 1;
     }
 }
@@ -169,7 +166,7 @@ fn fill_part(list: PreferenceList, log: &[i32], k: usize, into: usize, table: &m
 pub fn table_length(list: PreferenceList, log: &[i32]) -> usize
     ensures { λ n. ⌜ n ≡ tableLength list (now (log .entry)) ⌝ }
 {
-    8 * (log.len() / 8)
+    limits::COLUMNS * runs::row_count(log)
 }
 
 // Fills the front of a table with the levels of a log, part by part.
@@ -178,7 +175,7 @@ pub fn fill_table(list: PreferenceList, log: &[i32], table: &mut [u16])
         now (table .exit) ≡ sets (now (table .entry)) 0 (tableOf list (now (log .entry))) ⌝ }
 {
     let mut k: usize = 0;
-    while k < 8 {
+    while k < limits::COLUMNS {
         fill_part(list, log, k, k, table);
         k += 1;
     }

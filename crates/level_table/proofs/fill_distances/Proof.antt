@@ -37,7 +37,7 @@ unfolding withPart
 loop-holds c = (search needs, c .rows-in .ensures, refl, λ l h. refl)
 
 value-at-requires : tie.Need-value-at-requires Inv-loop μ-loop
-value-at-requires c κs = omega (arith, c .before .loop .inv .1 .few)
+value-at-requires c κs = search needs
 
 level-outside-requires : tie.Need-level-outside-requires Inv-loop μ-loop
 level-outside-requires c κs = search needs

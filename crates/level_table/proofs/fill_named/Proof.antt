@@ -29,7 +29,7 @@ unfolding withPart
 loop-holds c = (search needs, c .rows-in .ensures, refl, refl)
 
 value-at-requires : tie.Need-value-at-requires Inv-loop μ-loop
-value-at-requires c κs = omega (arith, c .before .loop .inv .1 .few)
+value-at-requires c κs = search needs
 
 layer-among-requires : tie.Need-layer-among-requires Inv-loop μ-loop
 layer-among-requires c κs = search needs
