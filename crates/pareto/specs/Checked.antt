@@ -1,11 +1,11 @@
 -- Document 01, "When a number comes back": the checks that the engines share, "log, marks, w and work list 10; 8".
 use Prim.Native.Nat.{ℕ}
 use mathlib.Core.List.{List}
-use lib.Dec.{ltb}
 use lib.IntN.{ℤ}
-use Rattle.laws.specs.Checks.{_gives_, _then_}
+use Rattle.laws.specs.Checks.{_then_}
 use Rattle.laws.specs.First.{firstNumber}
 use Rattle.runs.specs.Log.{rowCount, rowAt, logNumber}
+pub use Rattle.runs.specs.Log.{marksNumber}
 use Rattle.preference.specs.Valid.{listNumber}
 use Rattle.preference.specs.Parts.{rowNumber}
 use Rattle.preference.specs.declared.PreferenceList.{PreferenceList}
@@ -13,10 +13,6 @@ use Rattle.preference.specs.declared.PreferenceList.{PreferenceList}
 -- 8: a value of a row outside lo..hi of its wish
 unfoldable pub rowsNumber : PreferenceList → List ℤ → ℕ
 rowsNumber l log = firstNumber (λ r. rowNumber l (rowAt log r)) (rowCount log)
-
--- 10: marks shorter than the rows
-abbrev pub marksNumber : List ℤ → ℕ → ℕ
-marksNumber log marks = ltb marks (rowCount log) gives 10
 
 -- the list, the log, what a call adds under 10, then 8
 unfoldable pub checkedNumber : PreferenceList → List ℤ → ℕ → ℕ

@@ -13,21 +13,18 @@ ghost use Rattle.pareto.specs.Best.{competes, competing};
 ghost use Rattle.pareto.specs.Checked.{rowsNumber, checkedNumber};
 ghost use Rattle.pareto.specs.Table.{lower, hasLower, relation, compared};
 
-// 8 or 0 of one row, handed on as the part of the log that begins at 8 × its number.
+// 8 or 0 of one row.
 fn row_at_number(list: PreferenceList, log: &[i32], r: usize) -> u8
-    requires { ⌜ 8 * r + 8 ≤ length (now log) ⌝ }
     ensures { λ k. ⌜ k ≡ rowNumber list (rowAt (now (log .entry)) r) ⌝ }
 {
-    let start = 8 * r;
-    let end = start + 8;
-    levels::row_number(list, &log[start..end])
+    levels::row_number(list, runs::row(log, r))
 }
 
 // 8 where a value of a row lies outside the bounds of its wish, or 0.
 pub fn rows_number(list: PreferenceList, log: &[i32]) -> u8
     ensures { λ k. ⌜ k ≡ rowsNumber list (now (log .entry)) ⌝ }
 {
-    let n = log.len() / 8;
+    let n = runs::row_count(log);
     let mut r: usize = 0;
     while r < n {
         let k = row_at_number(list, log, r);
@@ -81,7 +78,7 @@ pub fn competing_rows(log: &[i32], rows: &mut [usize]) -> usize
         (n ≡ length (competing (now (log .entry))))
         × (now (rows .exit) ≡ sets (now (rows .entry)) 0 (competing (now (log .entry)))) ⌝ }
 {
-    let count = log.len() / 8;
+    let count = runs::row_count(log);
     let mut n: usize = 0;
     let mut r: usize = 0;
     while r < count {

@@ -17,8 +17,11 @@ Inv-loop log rows₀ count n₀ r₀ rows n r = (r ≤ count) × Listed (compete
 abbrev μ-loop : tie.MeasureT-loop
 μ-loop log rows₀ count n₀ r₀ rows n r = count - r
 
+row-count-requires : tie.Need-row-count-requires Inv-loop μ-loop
+row-count-requires c κs = search needs
+
 loop-holds : tie.Need-loop-holds Inv-loop μ-loop
-loop-holds c = (search needs, listed-none (competes (c .before .args .log .now)) (c .before .args .rows .now))
+loop-holds c = (search needs, listed-none (competes (c .before .before .args .log .now)) (c .before .before .args .rows .now))
 
 row-competes-requires : tie.Need-row-competes-requires Inv-loop μ-loop
 row-competes-requires c κs = search needs
@@ -38,7 +41,7 @@ loop-less c = search needs
 loop-again : tie.Need-loop-again Inv-loop μ-loop
 loop-again c =
     let l = c .before .before .before .loop in
-    let a = c .before .before .before .before .before .args in
+    let a = c .before .before .before .before .before .before .args in
     let e = sym (c .before .row-competes .ensures) in (
       omega arith,
       ⊎-elim
@@ -48,13 +51,13 @@ loop-again c =
     )
 
 same-length : tie.Need-same-length Inv-loop μ-loop
-same-length c = let l = c .before .loop in ap length (l .inv .1 .stored) ∙ length-sets (c .before .before .before .args .rows .now) 0 (passing (competes (c .before .before .before .args .log .now)) (l .r))
+same-length c = let l = c .before .loop in ap length (l .inv .1 .stored) ∙ length-sets (c .before .before .before .before .args .rows .now) 0 (passing (competes (c .before .before .before .before .args .log .now)) (l .r))
 
 returns : tie.Need-returns Inv-loop μ-loop
 unfolding competing
 returns c =
     let l = c .before .loop in
-    let e : l .r ≡ length (c .before .before .before .args .log .now) / 8 = omega arith in
+    let e : l .r ≡ length (c .before .before .before .before .args .log .now) / 8 = omega arith in
     (l .inv .1 .counted ∙ rw e, l .inv .1 .stored ∙ rw e)
 
 pub competing-rows-spec : {M : Type 1} → statement M
@@ -63,6 +66,7 @@ competing-rows-spec =
     (tie.spec
     Inv-loop
     μ-loop
+    row-count-requires
     loop-holds
     row-competes-requires
     store-row-requires
