@@ -125,7 +125,8 @@ fn places_number(list: PreferenceList, n: usize) -> u8
     0
 }
 
-fn place_before(k: usize) -> usize
+// The place before one; 0 of 0.
+pub fn place_before(k: usize) -> usize
     ensures { λ r. ⌜ r ≡ k - 1 ⌝ }
 {
     if k == 0 { 0 } else { k - 1 }

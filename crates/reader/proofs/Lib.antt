@@ -1,4 +1,3 @@
 pub mod Part
 pub mod Runs
 pub mod Stored
-pub mod Table

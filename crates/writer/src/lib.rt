@@ -1,142 +1,17 @@
-// Writing of a preference list and a log as a stream. Stores past the output's end do nothing, so that the room is one check.
-use constructor::Constructor;
+// Writing of a preference list and a log as a stream. Each function that puts something stores its bytes at a place and
+// gives the place after them. Stores past the output's end do nothing, so that the room is one check.
 use format::WriteAnswer;
-use preference::Named;
-use preference::Preference;
 use preference::PreferenceList;
 ghost use mathlib.Core.Path.{_≡_};
-ghost use mathlib.Core.List.{_++_};
-ghost use Prim.Native.Nat.{_+_, _*_, _<_, _≤_, _^_};
+ghost use Prim.Native.Nat.{_+_, _<_, _≤_, _^_};
 ghost use lib.ListN.{length};
-ghost use Rattle.word.specs.Word.{wordBytes, intBytes};
 ghost use Rattle.runs.specs.Log.{rowCount, logNumber};
 ghost use Rattle.laws.specs.Outcome.{outcome};
 ghost use Rattle.laws.specs.Lists.{joined};
 ghost use Rattle.preference.specs.Valid.{listNumber};
-ghost use Rattle.format.specs.Write.{kindFor, constructorBytes, preferenceBytes, namedBytes, intsBytes, runBytes, namedBytesOf, preferencePart, rowBytes};
+ghost use Rattle.format.specs.Write.{namedBytesOf, preferencePart, rowBytes};
 ghost use Rattle.format.specs.Write.{streamOf, writeNumber, outAfter, outcomeOf};
 ghost use Rattle.word.specs.Puts.{Puts};
-
-// ---- one record. Each of these stores bytes at a place and gives the place after them.
-
-fn put_range(out: &mut [u8], at: usize, lo: i32, hi: i32, step: u32) -> usize
-    requires { ⌜ at + 12 < 2 ^ 64 ⌝ }
-    ensures { λ r. ⌜ Puts (now (out .entry)) (now (out .exit)) at r (intBytes lo ++ intBytes hi ++ wordBytes step) ⌝ }
-{
-    word::put_i32(out, at, lo);
-    word::put_i32(out, at + 4, hi);
-    word::put_u32(out, at + 8, step);
-    at + 12
-}
-
-fn put_constructor(out: &mut [u8], at: usize, c: Constructor) -> usize
-    requires { ⌜ at + 20 < 2 ^ 64 ⌝ }
-    ensures { λ r. ⌜ Puts (now (out .entry)) (now (out .exit)) at r (constructorBytes c) ⌝ }
-{
-    match c {
-        Constructor::Lowest { lo, hi, step } => put_range(out, at, lo, hi, step),
-        Constructor::Highest { lo, hi, step } => put_range(out, at, lo, hi, step),
-        Constructor::Around { lo, hi, step, z } => {
-            let next = put_range(out, at, lo, hi, step);
-            word::put_i32(out, next, z);
-            next + 4
-        }
-        Constructor::Between {
-            lo,
-            hi,
-            step,
-            low,
-            up,
-        } => {
-            let next = put_range(out, at, lo, hi, step);
-            word::put_i32(out, next, low);
-            word::put_i32(out, next + 4, up);
-            next + 8
-        }
-        Constructor::Layered { top, others } => {
-            word::put_u8(out, at, top);
-            word::put_u8(out, at + 1, others);
-            at + 2
-        }
-    }
-}
-
-// The kind of a form's record.
-fn kind_for(c: Constructor) -> u8
-    ensures { λ r. ⌜ r ≡ kindFor c ⌝ }
-{
-    match c {
-        Constructor::Lowest {
-            lo: _,
-            hi: _,
-            step: _,
-        } => 1,
-        Constructor::Highest {
-            lo: _,
-            hi: _,
-            step: _,
-        } => 2,
-        Constructor::Around {
-            lo: _,
-            hi: _,
-            step: _,
-            z: _,
-        } => 3,
-        Constructor::Between {
-            lo: _,
-            hi: _,
-            step: _,
-            low: _,
-            up: _,
-        } => 4,
-        Constructor::Layered { top: _, others: _ } => 5,
-    }
-}
-
-fn put_preference(out: &mut [u8], at: usize, p: Preference) -> usize
-    requires { ⌜ at + 22 < 2 ^ 64 ⌝ }
-    ensures { λ r. ⌜ Puts (now (out .entry)) (now (out .exit)) at r (preferenceBytes p) ⌝ }
-{
-    let c = p.constructor;
-    word::put_u8(out, at, kind_for(c));
-    word::put_u8(out, at + 1, p.column);
-    put_constructor(out, at + 2, c)
-}
-
-fn put_named(out: &mut [u8], at: usize, e: Named) -> usize
-    requires { ⌜ at + 6 < 2 ^ 64 ⌝ }
-    ensures { λ r. ⌜ Puts (now (out .entry)) (now (out .exit)) at r (namedBytes e) ⌝ }
-{
-    word::put_u8(out, at, 6);
-    word::put_i32(out, at + 1, e.value);
-    word::put_u8(out, at + 5, e.layer);
-    at + 6
-}
-
-// The numbers of a row.
-fn put_ints(out: &mut [u8], at: usize, row: &[i32]) -> usize
-    requires { ⌜ at + 4 * length (now row) < 2 ^ 64 ⌝ }
-    ensures { λ r. ⌜ Puts (now (out .entry)) (now (out .exit)) at r (intsBytes (now (row .entry))) ⌝ }
-{
-    let mut next = at;
-    let mut j: usize = 0;
-    while j < row.len() {
-        word::put_i32(out, next, row[j]);
-        next += 4;
-        j += 1;
-    }
-    next
-}
-
-fn put_run(out: &mut [u8], at: usize, row: &[i32]) -> usize
-    requires { ⌜ at + 1 + 4 * length (now row) < 2 ^ 64 ⌝ }
-    ensures { λ r. ⌜ Puts (now (out .entry)) (now (out .exit)) at r (runBytes (now (row .entry))) ⌝ }
-{
-    word::put_u8(out, at, 7);
-    put_ints(out, at + 1, row)
-}
-
-// ---- the stream
 
 // The named value at place k, where it belongs to the preference at place i.
 fn put_named_of(out: &mut [u8], at: usize, list: PreferenceList, i: usize, k: usize) -> usize
@@ -148,7 +23,7 @@ fn put_named_of(out: &mut [u8], at: usize, list: PreferenceList, i: usize, k: us
     if arith::wide(owner) != i {
         return at;
     }
-    put_named(out, at, e)
+    stream_record_writer::put_named(out, at, e)
 }
 
 // The named values of the preference at place i.
@@ -172,7 +47,7 @@ fn put_part(out: &mut [u8], at: usize, list: PreferenceList, i: usize) -> usize
     ensures { λ r. ⌜ Puts (now (out .entry)) (now (out .exit)) at r (preferencePart list i) ⌝ }
 {
     let p = list.preferences[i];
-    let next = put_preference(out, at, p);
+    let next = stream_record_writer::put_preference(out, at, p);
     put_names_of(out, next, list, i)
 }
 
@@ -197,12 +72,14 @@ fn put_row(out: &mut [u8], at: usize, log: &[i32], r: usize) -> usize
 {
     let from = 8 * r;
     let to = from + 8;
-    put_run(out, at, &log[from..to])
+    stream_record_writer::put_run(out, at, &log[from..to])
 }
 
 fn put_runs(out: &mut [u8], at: usize, log: &[i32]) -> usize
     requires { ⌜ (at ≤ 4096) × (length (now log) ≤ 8192) ⌝ }
-    ensures { λ r. ⌜ Puts (now (out .entry)) (now (out .exit)) at r (joined (rowBytes (now (log .entry))) (rowCount (now (log .entry)))) ⌝ }
+    ensures { λ r. ⌜
+        Puts (now (out .entry)) (now (out .exit)) at r
+        (joined (rowBytes (now (log .entry))) (rowCount (now (log .entry)))) ⌝ }
 {
     let rows = log.len() / 8;
     let mut next = at;
@@ -233,7 +110,11 @@ fn stream_length(list: PreferenceList, log: &[i32]) -> usize
 
 // Writes the stream of a list and a log. Nothing is stored before every check has passed.
 pub fn write(list: PreferenceList, log: &[i32], out: &mut [u8]) -> WriteAnswer
-    ensures { λ r. ⌜ (outcomeOf r ≡ outcome (writeNumber list (now (log .entry)) (length (now (out .entry)))) (length (streamOf list (now (log .entry))))) × (now (out .exit) ≡ outAfter list (now (log .entry)) (now (out .entry))) ⌝ }
+    ensures { λ r. ⌜
+        (outcomeOf r
+        ≡ outcome (writeNumber list (now (log .entry)) (length (now (out .entry))))
+        (length (streamOf list (now (log .entry)))))
+        × (now (out .exit) ≡ outAfter list (now (log .entry)) (now (out .entry))) ⌝ }
 {
     let list_number = preference::number(list);
     if list_number != 0 {

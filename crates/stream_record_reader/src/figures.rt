@@ -1,0 +1,112 @@
+// The figures of the record that t begins with, and what they add to the list and the rows.
+use constructor::Constructor;
+use format::Class;
+use preference::Named;
+use preference::Preference;
+use preference::PreferenceList;
+ghost use mathlib.Core.Path.{_≡_};
+ghost use Prim.Native.Nat.{_-_, _<_, _≤_};
+ghost use Rattle.format.specs.Read.{constructorOf, preferenceOf, namedOf};
+ghost use Rattle.format.specs.Read.{addPreference, addNamed, listAfter, rowsAfter};
+ghost use Rattle.format.specs.declared.Class.the-variants.{PreferenceRecord, NamedRecord, RunRecord};
+
+// What stands past the record's own figures is read too, and not used.
+fn constructor_of(k: u8, t: &[u8]) -> Constructor
+    ensures { λ r. ⌜ r ≡ constructorOf k (now (t .entry)) ⌝ }
+{
+    let lo = word::get_i32(t, 2);
+    let hi = word::get_i32(t, 6);
+    let step = word::get_u32(t, 10);
+    let low = word::get_i32(t, 14);
+    let up = word::get_i32(t, 18);
+    match k {
+        1 => Constructor::Lowest { lo, hi, step },
+        2 => Constructor::Highest { lo, hi, step },
+        3 => Constructor::Around {
+            lo,
+            hi,
+            step,
+            z: low,
+        },
+        4 => Constructor::Between {
+            lo,
+            hi,
+            step,
+            low,
+            up,
+        },
+        _ => Constructor::Layered {
+            top: word::get_u8(t, 2),
+            others: word::get_u8(t, 3),
+        },
+    }
+}
+
+pub fn preference_of(t: &[u8]) -> Preference
+    ensures { λ r. ⌜ r ≡ preferenceOf (now (t .entry)) ⌝ }
+{
+    let column = word::get_u8(t, 1);
+    let constructor = constructor_of(word::get_u8(t, 0), t);
+    Preference {
+        column,
+        constructor,
+    }
+}
+
+fn with_preference(list: PreferenceList, p: Preference) -> PreferenceList
+    requires { ⌜ list .count < 8 ⌝ }
+    ensures { λ r. ⌜ r ≡ addPreference list p ⌝ }
+{
+    let count = list.count;
+    let i = count as usize;
+    let mut grown = list;
+    grown.preferences[i] = p;
+    grown.count = count + 1;
+    grown
+}
+
+// The named value that t begins with belongs to the last preference.
+fn with_named(list: PreferenceList, t: &[u8]) -> PreferenceList
+    requires { ⌜ (list .count ≤ 8) × (list .namings < 64) ⌝ }
+    ensures { λ r. ⌜ r ≡ addNamed list (namedOf (list .count - 1) (now (t .entry))) ⌝ }
+{
+    let n = list.namings;
+    let i = n as usize;
+    let owner = preference::place_before(list.count as usize) as u8;
+    let value = word::get_i32(t, 1);
+    let layer = word::get_u8(t, 5);
+    let mut grown = list;
+    grown.named[i] = Named {
+        preference: owner,
+        value,
+        layer,
+    };
+    grown.namings = n + 1;
+    grown
+}
+
+pub fn list_after(class: Class, list: PreferenceList, t: &[u8]) -> PreferenceList
+    requires { ⌜
+        (class ≡ PreferenceRecord → list .count < 8)
+        × (class ≡ NamedRecord → (list .count ≤ 8) × (list .namings < 64)) ⌝ }
+    ensures { λ r. ⌜ r ≡ listAfter class list (now (t .entry)) ⌝ }
+{
+    match class {
+        Class::Unknown => list,
+        Class::PreferenceRecord => with_preference(list, preference_of(t)),
+        Class::NamedRecord => with_named(list, t),
+        Class::RunRecord => list,
+    }
+}
+
+pub fn rows_after(class: Class, rows: usize) -> usize
+    requires { ⌜ (class ≡ RunRecord → rows < 1024) ⌝ }
+    ensures { λ r. ⌜ r ≡ rowsAfter class rows ⌝ }
+{
+    match class {
+        Class::Unknown => rows,
+        Class::PreferenceRecord => rows,
+        Class::NamedRecord => rows,
+        Class::RunRecord => rows + 1,
+    }
+}

@@ -1,0 +1,46 @@
+// What the kind byte of a record says.
+use format::Class;
+ghost use mathlib.Core.Path.{_≡_};
+ghost use Prim.Native.Nat.{_≤_};
+ghost use Rattle.format.specs.Kinds.{classOf, bodyOf};
+ghost use Rattle.format.specs.Read.{isUnknown};
+
+// What the record that t begins with says, by its kind byte.
+pub fn class_of(t: &[u8]) -> Class
+    ensures { λ r. ⌜ r ≡ classOf (now (t .entry)) ⌝ }
+{
+    let k = word::get_u8(t, 0);
+    match k {
+        1 | 2 | 3 | 4 | 5 => Class::PreferenceRecord,
+        6 => Class::NamedRecord,
+        7 => Class::RunRecord,
+        _ => Class::Unknown,
+    }
+}
+
+// The bytes of its body, at most 32.
+pub fn body_of(t: &[u8]) -> usize
+    ensures { λ r. ⌜ (r ≡ bodyOf (now (t .entry))) × (r ≤ 32) ⌝ }
+{
+    let k = word::get_u8(t, 0);
+    match k {
+        1 | 2 => 13,
+        3 => 17,
+        4 => 21,
+        5 => 3,
+        6 => 5,
+        7 => 32,
+        _ => 0,
+    }
+}
+
+pub fn is_unknown(class: Class) -> bool
+    ensures { λ r. ⌜ r ≡ isUnknown class ⌝ }
+{
+    match class {
+        Class::Unknown => true,
+        Class::PreferenceRecord => false,
+        Class::NamedRecord => false,
+        Class::RunRecord => false,
+    }
+}
