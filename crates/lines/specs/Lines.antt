@@ -1,25 +1,27 @@
 -- Document 01, "The other calls": the program "prints lines, one space between fields: `refused N`, or one of rows and shortlisted
--- rows, then per shortlisted row its number, hours and cubic metres." Texts are lists of byte codes; 32 is the space, 10 ends a line.
+-- rows, then per shortlisted row its number, hours and cubic metres."
 use Prim.Native.Nat.{ℕ}
 use mathlib.Core.Bool.{cond}
-use mathlib.Core.List.{List, [], _∷_, _++_}
+use mathlib.Core.List.{List, [], _++_}
 use lib.Dec.{eqb}
 use lib.IntN.{ℤ, pos}
 use lib.ListN.{getD}
 use Rattle.runs.specs.Log.{rowAt}
+use Rattle.text.specs.Letters.{letters}
 use Rattle.text.specs.Text.{decimal, signed}
 
 -- "refused N"
 unfoldable pub refusedText : ℕ → List ℕ
-refusedText k = 114 ∷ 101 ∷ 102 ∷ 117 ∷ 115 ∷ 101 ∷ 100 ∷ 32 ∷ [] ++ decimal k ++ 10 ∷ []
+refusedText k = letters "refused " ++ decimal k ++ letters "\n"
 
 -- "runs N best N"
 unfoldable pub headText : ℕ → ℕ → List ℕ
-headText rows best = 114 ∷ 117 ∷ 110 ∷ 115 ∷ 32 ∷ [] ++ decimal rows ++ 32 ∷ 98 ∷ 101 ∷ 115 ∷ 116 ∷ 32 ∷ [] ++ decimal best ++ 10 ∷ []
+headText rows best = letters "runs " ++ decimal rows ++ letters " best " ++ decimal best ++ letters "\n"
 
 -- a row's number, hours (column 0) and cubic metres (column 1)
 unfoldable pub fieldsText : ℕ → List ℤ → List ℕ
-fieldsText r row = decimal r ++ 32 ∷ [] ++ signed (getD row 0 (pos 0)) ++ 32 ∷ [] ++ signed (getD row 1 (pos 0)) ++ 10 ∷ []
+fieldsText r row =
+    decimal r ++ letters " " ++ signed (getD row 0 (pos 0)) ++ letters " " ++ signed (getD row 1 (pos 0)) ++ letters "\n"
 
 unfoldable pub lineText : List ℤ → ℕ → List ℕ
 lineText log r = fieldsText r (rowAt log r)

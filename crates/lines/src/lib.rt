@@ -2,6 +2,7 @@
 ghost use mathlib.Core.Path.{_≡_};
 ghost use Prim.Native.Nat.{_<_};
 ghost use lib.ListN.{length};
+ghost use Rattle.limits.specs.Limits.{columns};
 ghost use Rattle.laws.specs.Lists.{joined};
 ghost use Rattle.runs.specs.Log.{rowCount};
 ghost use Rattle.text.specs.Prints.{Prints};
@@ -12,7 +13,7 @@ pub fn put_refused(out: &mut [u8], k: u64) -> usize
 {
     let word = text::put_bytes(out, 0, b"refused ");
     let number = text::put_decimal(out, word, k);
-    text::put_byte(out, number, 10)
+    text::put_byte(out, number, b'\n')
 }
 
 // The line of rows and shortlisted rows.
@@ -23,20 +24,20 @@ pub fn put_head(out: &mut [u8], rows: u64, best: u64) -> usize
     let first = text::put_decimal(out, runs, rows);
     let between = text::put_bytes(out, first, b" best ");
     let second = text::put_decimal(out, between, best);
-    text::put_byte(out, second, 10)
+    text::put_byte(out, second, b'\n')
 }
 
 // A row's number, its hours and its cubic metres.
 fn put_fields(out: &mut [u8], at: usize, r: u64, row: &[i32]) -> usize
-    requires { ⌜ length (now row) ≡ 8 ⌝ }
+    requires { ⌜ length (now row) ≡ columns ⌝ }
     ensures { λ next. ⌜ Prints (now (out .entry)) (now (out .exit)) at next (fieldsText r (now (row .entry))) ⌝ }
 {
     let number = text::put_decimal(out, at, r);
-    let hours = text::put_byte(out, number, 32);
+    let hours = text::put_byte(out, number, b' ');
     let hours = text::put_signed(out, hours, row[0]);
-    let metres = text::put_byte(out, hours, 32);
+    let metres = text::put_byte(out, hours, b' ');
     let metres = text::put_signed(out, metres, row[1]);
-    text::put_byte(out, metres, 10)
+    text::put_byte(out, metres, b'\n')
 }
 
 // The line of row r of the log.
@@ -44,9 +45,7 @@ fn put_line(out: &mut [u8], at: usize, log: &[i32], r: usize) -> usize
     requires { ⌜ r < rowCount (now log) ⌝ }
     ensures { λ next. ⌜ Prints (now (out .entry)) (now (out .exit)) at next (lineText (now (log .entry)) r) ⌝ }
 {
-    let from = 8 * r;
-    let to = from + 8;
-    put_fields(out, at, r as u64, &log[from..to])
+    put_fields(out, at, r as u64, runs::row(log, r))
 }
 
 fn put_line_if_marked(out: &mut [u8], at: usize, log: &[i32], marks: &[u8], r: usize) -> usize
@@ -63,7 +62,7 @@ fn put_line_if_marked(out: &mut [u8], at: usize, log: &[i32], marks: &[u8], r: u
 pub fn put_lines(out: &mut [u8], at: usize, log: &[i32], marks: &[u8]) -> usize
     ensures { λ r. ⌜ Prints (now (out .entry)) (now (out .exit)) at r (joined (markedText (now (marks .entry)) (now (log .entry))) (rowCount (now (log .entry)))) ⌝ }
 {
-    let rows = log.len() / 8;
+    let rows = runs::row_count(log);
     let mut next = at;
     let mut r: usize = 0;
     while r < rows {

@@ -1,3 +1,4 @@
+pub mod Letters
 pub mod Text
 pub mod Prints
 pub mod Laws

@@ -4,9 +4,13 @@ use mathlib.Core.List.{List}
 use lib.ListN.{take}
 use Rattle.word.specs.Puts.{Puts}
 
--- what of a text at a place stands below 2 ^ 32
+-- the place that no text goes past: 2 ^ 32
+abbrev pub textEnd : ℕ
+textEnd = 4294967296
+
+-- what of a text at a place stands before that end
 unfoldable pub within : ℕ → List ℕ → List ℕ
-within at x = take (4294967296 - at) x
+within at x = take (textEnd - at) x
 
 -- that much is stored, as far as there is room, and the place after it comes back
 pub record Prints (out last : List ℕ) (at next : ℕ) (x : List ℕ) : Type 0 where

@@ -1,12 +1,15 @@
--- Document 01: "Numbers are written in base ten". The bytes of a number's text: 48 is the figure 0, 45 the minus.
+-- Document 01: "Numbers are written in base ten".
 use Prim.Native.Nat.{ℕ, zero, suc, _+_, _/_, _%_}
+use Prim.Native.Char.{code}
 use mathlib.Core.Bool.{cond}
 use mathlib.Core.List.{List, [], _∷_, _++_}
 use lib.Dec.{ltb}
 use lib.IntN.{ℤ, pos, negsuc, natAbs}
+use Rattle.text.specs.Letters.{letters}
 
+-- the letter of the figure d
 abbrev pub figure : ℕ → ℕ
-figure d = 48 + d
+figure d = code "0" + d
 
 -- the figures of n, taken in so many rounds and one
 unfoldable pub decimalBy : ℕ → ℕ → List ℕ
@@ -19,7 +22,7 @@ decimal n = decimalBy n n
 
 unfoldable pub sign : ℤ → List ℕ
 sign (pos n) = []
-sign (negsuc n) = 45 ∷ []
+sign (negsuc n) = letters "-"
 
 unfoldable pub signed : ℤ → List ℕ
 signed z = sign z ++ decimal (natAbs z)

@@ -1,15 +1,18 @@
-// Texts put into lent bytes one after the other. Every function takes every place and gives the place after its text. A store past the
-// end does nothing, and no text goes past byte 4,294,967,296, so that no place can wrap.
+// Texts put into lent bytes one after the other. Every function takes every place and gives the place after its text.
+// A store past the bytes' end does nothing.
 ghost use mathlib.Core.Path.{_≡_};
 ghost use mathlib.Core.List.{[], _∷_};
 ghost use lib.IntN.{natAbs};
 ghost use Rattle.text.specs.Text.{decimal, sign, signed};
 ghost use Rattle.text.specs.Prints.{Prints};
 
+// No text goes past this place, so that no place can wrap.
+const TEXT_END: usize = 4294967296;
+
 pub fn put_byte(out: &mut [u8], at: usize, b: u8) -> usize
     ensures { λ r. ⌜ Prints (now (out .entry)) (now (out .exit)) at r (b ∷ []) ⌝ }
 {
-    if at < 4294967296 {
+    if at < TEXT_END {
         word::put_u8(out, at, b);
         return at + 1;
     }
@@ -28,15 +31,18 @@ pub fn put_bytes(out: &mut [u8], at: usize, bytes: &[u8]) -> usize
     next
 }
 
+// The letter of the figure 0.
+const ZERO: u64 = b'0' as u64;
+
 // The number n in base ten.
 pub fn put_decimal(out: &mut [u8], at: usize, n: u64) -> usize
     ensures { λ r. ⌜ Prints (now (out .entry)) (now (out .exit)) at r (decimal n) ⌝ }
 {
     if n < 10 {
-        return put_byte(out, at, (48 + n) as u8);
+        return put_byte(out, at, (ZERO + n) as u8);
     }
     let next = put_decimal(out, at, n / 10);
-    put_byte(out, next, (48 + n % 10) as u8)
+    put_byte(out, next, (ZERO + n % 10) as u8)
 }
 
 // The size of a signed number: of the two gaps one is 0.
@@ -50,7 +56,7 @@ fn put_sign(out: &mut [u8], at: usize, v: i32) -> usize
     ensures { λ r. ⌜ Prints (now (out .entry)) (now (out .exit)) at r (sign v) ⌝ }
 {
     if v < 0 {
-        return put_byte(out, at, 45);
+        return put_byte(out, at, b'-');
     }
     at
 }

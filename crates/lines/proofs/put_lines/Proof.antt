@@ -18,6 +18,9 @@ Inv-loop out₀ at log marks rows next₀ r₀ out next r = (r ≤ rows) × Prin
 abbrev μ-loop : tie.MeasureT-loop
 μ-loop out₀ at log marks rows next₀ r₀ out next r = rows - r
 
+row-count-requires : tie.Need-row-count-requires Inv-loop μ-loop
+row-count-requires c κs = search needs
+
 loop-holds : tie.Need-loop-holds Inv-loop μ-loop
 loop-holds c = unfold joined in (search needs, prints-none _ _)
 
@@ -33,7 +36,7 @@ loop-less c = search needs
 loop-again : tie.Need-loop-again Inv-loop μ-loop
 loop-again c =
     let q = c .before .before .before .before .before in
-    let a = q .before .before .before .args in
+    let a = q .before .before .before .before .args in
     (search needs, prints-turn (markedText (a .marks .now) (a .log .now)) (q .loop .r) (q .loop .inv .1) (c .before .before .put-line-if-marked .ensures))
 
 same-length : tie.Need-same-length Inv-loop μ-loop
@@ -41,7 +44,7 @@ same-length c = prints-length (c .before .loop .inv .1)
 
 returns : tie.Need-returns Inv-loop μ-loop
 returns c =
-    let a = c .before .before .before .before .args in
+    let a = c .before .before .before .before .before .args in
     let q = c .before .loop in
     let e : q .r ≡ rowCount (a .log .now) = omega arith in
     prints-same (ap (joined (markedText (a .marks .now) (a .log .now))) e) (q .inv .1)
@@ -52,6 +55,7 @@ put-lines-spec =
     (tie.spec
     Inv-loop
     μ-loop
+    row-count-requires
     loop-holds
     put-line-if-marked-requires
     add-r

@@ -2,36 +2,37 @@
 use mathlib.Core.Path.{_≡_, refl, sym, ap}
 use Prim.Native.Nat.{ℕ}
 use native.Mathlib.Omega.{arith}
-use mathlib.Core.List.{List, [], _∷_}
+use mathlib.Core.List.{List, _++_}
 use lib.IntN.{pos, negsuc}
+use Rattle.text.specs.Letters.{letters}
 use Rattle.text.specs.Text.{decimalBy, decimal, sign, signed}
 use Rattle.text.specs.Laws.Text.{rounds-enough}
 
-pub zero-text : decimal 0 ≡ 48 ∷ []
+pub zero-text : decimal 0 ≡ letters "0"
 unfolding decimal decimalBy
 zero-text = refl
 
-pub nine-text : decimal 9 ≡ 57 ∷ []
+pub nine-text : decimal 9 ≡ letters "9"
 unfolding decimal decimalBy
 nine-text = refl
 
-pub ten-text : decimal 10 ≡ 49 ∷ 48 ∷ []
+pub ten-text : decimal 10 ≡ letters "10"
 unfolding decimal decimalBy
 ten-text = refl
 
-pub most-rows-text : decimal 1024 ≡ 49 ∷ 48 ∷ 50 ∷ 52 ∷ []
+pub most-rows-text : decimal 1024 ≡ letters "1024"
 unfolding decimal decimalBy
 most-rows-text = refl
 
-pub minus-one-text : signed (negsuc 0) ≡ 45 ∷ 49 ∷ []
+pub minus-one-text : signed (negsuc 0) ≡ letters "-1"
 unfolding signed sign decimal decimalBy
 minus-one-text = refl
 
 -- both ends of the range, by ten rounds
-pub least-text : signed (negsuc 2147483647) ≡ 45 ∷ 50 ∷ 49 ∷ 52 ∷ 55 ∷ 52 ∷ 56 ∷ 51 ∷ 54 ∷ 52 ∷ 56 ∷ []
+pub least-text : signed (negsuc 2147483647) ≡ letters "-2147483648"
 unfolding signed sign decimalBy
-least-text = ap (λ (x : List ℕ). 45 ∷ x) (sym (rounds-enough 9 2147483648 (omega arith)))
+least-text = ap (λ (x : List ℕ). letters "-" ++ x) (sym (rounds-enough 9 2147483648 (omega arith)))
 
-pub greatest-text : signed (pos 2147483647) ≡ 50 ∷ 49 ∷ 52 ∷ 55 ∷ 52 ∷ 56 ∷ 51 ∷ 54 ∷ 52 ∷ 55 ∷ []
+pub greatest-text : signed (pos 2147483647) ≡ letters "2147483647"
 unfolding signed sign decimalBy
 greatest-text = sym (rounds-enough 9 2147483647 (omega arith))

@@ -3,16 +3,17 @@ use mathlib.Core.Path.{_≡_, refl, sym, ap, subst, _∙_}
 use Prim.Native.Nat.{_+_}
 use native.Mathlib.Omega.{arith}
 use mathlib.Core.Bool.{true, false}
-use mathlib.Core.List.{[], _∷_}
+use mathlib.Core.List.{[]}
 use lib.Dec.{T}
 use lib.IntN.{ℤ, pos, negsuc, natAbs, +ℤ-idr}
 use lib.Signed.{ltZ}
 use borrow.Author.Tests.{ltb-true}
 use Rattle.arith.specs.Gap.{gap}
 use Rattle.arith.specs.Laws.Gap.{gap-abs}
+use Rattle.text.specs.Letters.{letters}
 use Rattle.text.specs.Text.{sign}
 
-pub below-sign : (z : ℤ) → ltZ z (pos 0) ≡ true → sign z ≡ 45 ∷ []
+pub below-sign : (z : ℤ) → ltZ z (pos 0) ≡ true → sign z ≡ letters "-"
 unfolding sign
 below-sign (pos n) e = absurd (omega (arith, ltb-true n 0 e))
 below-sign (negsuc n) e = refl
