@@ -70,9 +70,7 @@ fn put_row(out: &mut [u8], at: usize, log: &[i32], r: usize) -> usize
     requires { ⌜ (at + 33 < 2 ^ 64) × (r < rowCount (now log)) ⌝ }
     ensures { λ next. ⌜ Puts (now (out .entry)) (now (out .exit)) at next (rowBytes (now (log .entry)) r) ⌝ }
 {
-    let from = 8 * r;
-    let to = from + 8;
-    stream_record_writer::put_run(out, at, &log[from..to])
+    stream_record_writer::put_run(out, at, runs::row(log, r))
 }
 
 fn put_runs(out: &mut [u8], at: usize, log: &[i32]) -> usize
@@ -81,7 +79,7 @@ fn put_runs(out: &mut [u8], at: usize, log: &[i32]) -> usize
         Puts (now (out .entry)) (now (out .exit)) at r
         (joined (rowBytes (now (log .entry))) (rowCount (now (log .entry)))) ⌝ }
 {
-    let rows = log.len() / 8;
+    let rows = runs::row_count(log);
     let mut next = at;
     let mut r: usize = 0;
     while r < rows {

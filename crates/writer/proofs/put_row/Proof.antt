@@ -1,57 +1,27 @@
-use mathlib.Core.Path.{ap, _≡_}
-use denote.Ref.{now}
-use lib.ListN.{take, drop, length-take}
-use Rattle.format.specs.Write.{runBytes}
-use Rattle.word.specs.Laws.Puts.{puts-same}
+use mathlib.Core.Path.{ap, _∙_}
+use lib.ListN.{length}
 use borrow.Author.Needs.{needs}
 use native.Mathlib.Omega.{arith}
-use Prim.Native.Nat.{ℕ, _-_, _+_, _*_}
+use Rattle.runs.specs.Laws.Log.{row-long}
+use Rattle.format.specs.Write.{runBytes}
+use Rattle.word.specs.Laws.Puts.{puts-same}
 use Rattle.writer.proofs.put_row.Statement.{statement}
 use Rattle.writer.proofs.put_row.Tie as tie
 
-mul-from : tie.Need-mul-from
-mul-from c = search needs
-
-add-to : tie.Need-add-to
-add-to c = search needs
-
-mul-put-run : tie.Need-mul-put-run
-mul-put-run c = search needs
-
-sub-put-run : tie.Need-sub-put-run
-sub-put-run c = search needs
-
-part-put-run-start : tie.Need-part-put-run-start
-part-put-run-start c = search needs
-
-part-put-run-end : tie.Need-part-put-run-end
-part-put-run-end c = search needs
+row-requires : tie.Need-row-requires
+row-requires c κs = search needs
 
 put-run-requires : tie.Need-put-run-requires
 put-run-requires c κs =
-    let a = c .before .before .before .args in
-    let n = 8 * a .r + 8 - 8 * a .r in
-    omega (arith, length-take n (drop (8 * a .r) (now (a .log))))
+    let d = c .before .before .before in
+    let long = ap length (c .row .ensures) ∙ row-long (d .args .log .now) (d .args .r) (d .pre .1) in
+    omega (arith, d .pre .0)
 
 same-length : tie.Need-same-length
 same-length c = search needs
 
 returns : tie.Need-returns
-returns c =
-    let a = c .before .before .before .before .before .before .args in
-    let e : 8 * a .r + 8 - 8 * a .r ≡ 8 = omega arith in
-    puts-same (ap (λ (n : ℕ). runBytes (take n (drop (8 * a .r) (now (a .log))))) e) (c .before .before .put-run .ensures)
+returns c = let d = c .before .before in puts-same (ap runBytes (d .before .row .ensures)) (d .put-run .ensures)
 
 pub put-row-spec : {M : Type 1} → statement M
-put-row-spec =
-    tie.close
-    (tie.spec
-    mul-from
-    add-to
-    mul-put-run
-    sub-put-run
-    part-put-run-start
-    part-put-run-end
-    put-run-requires
-    same-length
-    returns)
+put-row-spec = tie.close (tie.spec row-requires put-run-requires same-length returns)
