@@ -4,7 +4,7 @@ use window::Standing;
 ghost use mathlib.Core.Path.{_≡_};
 ghost use Prim.Native.Nat.{ℕ, _+_, _*_, _≤_};
 ghost use mathlib.Core.List.{map};
-ghost use lib.ListN.{length, replicate};
+ghost use lib.ListN.{length};
 ghost use Rattle.machine.specs.Machine.{marked, unread, machine};
 ghost use Rattle.machine.specs.Order.{Ordered};
 ghost use Rattle.window.specs.Work.{tableDominates, entries, stateAt};
@@ -89,16 +89,6 @@ fn all_passes(
 
 // ---- the machine on rows of a table
 
-fn clear(marks: &mut [u8])
-    ensures { λ _. ⌜ now (marks .exit) ≡ replicate (length (now (marks .entry))) 0 ⌝ }
-{
-    let mut i: usize = 0;
-    while i < marks.len() {
-        marks[i] = 0;
-        i += 1;
-    }
-}
-
 // These rows wait, from entry w on.
 fn fill_waiting(work: &mut [u32], w: usize, rows: &[usize])
     requires { ⌜ Waits w (now rows) (length (now work)) ⌝ }
@@ -122,7 +112,7 @@ pub fn run_rows(
     requires { ⌜ Waits w (now rows) (length (now work)) ⌝ }
     ensures { λ c. ⌜ (c ≡ machine (tableDominates (now (table .entry))) w (now (rows .entry)) (length (now (marks .entry))) .count) × (now (marks .exit) ≡ machine (tableDominates (now (table .entry))) w (now (rows .entry)) (length (now (marks .entry))) .marks) ⌝ }
 {
-    clear(marks);
+    word::clear(marks);
     fill_waiting(work, w, rows);
     let n = rows.len();
     let mut flags = [0u8; 1024];

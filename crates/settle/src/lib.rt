@@ -2,28 +2,16 @@
 // its node.
 use crossing::Progress;
 ghost use mathlib.Core.Path.{_≡_};
-ghost use lib.ListN.{length, replicate, getD, set};
+ghost use lib.ListN.{length, getD, set};
 ghost use Rattle.nodes.specs.Steps.{updated, heldByte, byteMark, markedBy};
 ghost use Rattle.walk.specs.Blocks.{Small};
 ghost use Rattle.settle.specs.Settled.{Settles};
-
-fn clear(bytes: &mut [u8])
-    ensures { λ _. ⌜ now (bytes .exit) ≡ replicate (length (now (bytes .entry))) 0 ⌝ }
-{
-    let mut i = 0;
-    while i < bytes.len() {
-        bytes[i] = 0;
-        i += 1;
-    }
-}
 
 // A number past the nodes holds none.
 fn hold_node(nodes: &mut [u8], x: usize)
     ensures { λ _. ⌜ now (nodes .exit) ≡ set (now (nodes .entry)) x 1 ⌝ }
 {
-    if x < nodes.len() {
-        nodes[x] = 1;
-    }
+    word::put_u8(nodes, x, 1);
 }
 
 // Marks the node of each row as held.
@@ -76,11 +64,11 @@ pub fn settle(
     requires { ⌜ length (now marks) ≡ length (now numbers) ⌝ }
     ensures { λ r. ⌜ Settles (now (weights .entry)) (now (numbers .entry)) (length (now (nodes .entry))) budget (now (marks .entry)) (r .ok) (r .made) (now (marks .exit)) (now (nodes .exit)) ⌝ }
 {
-    clear(nodes);
+    word::clear(nodes);
     hold(numbers, nodes);
     let p = walk::walk(weights, nodes, budget);
     if !p.ok {
-        clear(nodes);
+        word::clear(nodes);
         return p;
     }
     write_marks(numbers, nodes, marks);

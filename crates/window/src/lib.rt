@@ -36,9 +36,7 @@ pub fn put_entry(work: &mut [u32], i: usize, row: u32, timestamp: u32)
 pub fn mark(marks: &mut [u8], row: usize)
     ensures { λ _. ⌜ now (marks .exit) ≡ set (now (marks .entry)) row 1 ⌝ }
 {
-    if row < marks.len() {
-        marks[row] = 1;
-    }
+    word::put_u8(marks, row, 1);
 }
 
 // ---- reading one row

@@ -1,8 +1,8 @@
-// Numbers of four bytes, least byte first. Every function takes every place: bytes past the end read as 0, and a store past
-// the end does nothing.
+// Lent bytes, and numbers of four bytes, least byte first. Every function takes every place: bytes past the end read as
+// 0, and a store past the end does nothing.
 ghost use mathlib.Core.Path.{_≡_};
 ghost use Prim.Native.Nat.{_<_};
-ghost use lib.ListN.{length, getD, set};
+ghost use lib.ListN.{length, getD, set, replicate};
 ghost use lib.Seq.{sets};
 ghost use mir.Syntax.{w32};
 ghost use mir.Val.{toZ, ofZ};
@@ -14,21 +14,14 @@ pub fn get_u8(s: &[u8], at: usize) -> u8
     if at < s.len() { s[at] } else { 0 }
 }
 
-// A byte as a number of four; its bound keeps the sums in range.
-fn wide(b: u8) -> u32
-    ensures { λ r. ⌜ (r ≡ b) × (r < 256) ⌝ }
-{
-    b as u32
-}
-
 // The number of four bytes.
 pub fn of_bytes(a: u8, b: u8, c: u8, d: u8) -> u32
     ensures { λ r. ⌜ r ≡ word a b c d ⌝ }
 {
-    let a = wide(a);
-    let b = wide(b);
-    let c = wide(c);
-    let d = wide(d);
+    let a = a as u32;
+    let b = b as u32;
+    let c = c as u32;
+    let d = d as u32;
     a + 256 * (b + 256 * (c + 256 * d))
 }
 
@@ -94,6 +87,17 @@ pub fn put_u8(out: &mut [u8], at: usize, b: u8)
 {
     if at < out.len() {
         out[at] = b;
+    }
+}
+
+// Every byte is 0 then.
+pub fn clear(bytes: &mut [u8])
+    ensures { λ _. ⌜ now (bytes .exit) ≡ replicate (length (now (bytes .entry))) 0 ⌝ }
+{
+    let mut i = 0;
+    while i < bytes.len() {
+        bytes[i] = 0;
+        i += 1;
     }
 }
 
