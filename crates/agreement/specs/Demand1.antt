@@ -10,6 +10,7 @@ use lib.ListN.{length, drop, replicate}
 use borrow.Author.Tests.{eq-eqb, ne-eqb}
 use Rattle.laws.specs.Outcome.{outcome}
 use Rattle.laws.specs.Laws.Outcome.{refused-number}
+use Rattle.runs.specs.Log.{Log}
 use Rattle.preference.specs.Level as level
 use Rattle.preference.specs.declared.LevelAnswer.the-variants.{Refused as LevelRefused}
 use Rattle.preference.specs.declared.PreferenceList.{PreferenceList}
@@ -31,11 +32,11 @@ use Rattle.agreement.specs.Laws.Numbers.{lattice-most, window-most, domi
 abbrev NumberTo : ℕ → ℕ → Type 0
 NumberTo m k = (1 ≤ k) × (k ≤ m)
 
-kept : (k : ℕ) (l : PreferenceList) (log : List ℤ) (marks : List ℕ) → (k ≡ 0 → ⊥) → marksLeft k l log marks ≡ marks
+kept : (k : ℕ) (l : PreferenceList) (log : Log) (marks : List ℕ) → (k ≡ 0 → ⊥) → marksLeft k l log marks ≡ marks
 unfolding marksLeft
 kept k l log marks h = rw (ne-eqb k 0 h)
 
-module _ (l : PreferenceList) (log : List ℤ) where
+module _ (l : PreferenceList) (log : Log) where
   -- "except that 11 leaves each node's byte zero"
   pub lattice-refused : (marks marks′ nodes nodes′ : List ℕ) (budget k : ℕ) → Ran l log marks nodes budget (LatticeRefused k) marks′ nodes′
       → NumberTo 11 k × (marks′ ≡ marks) × ((k ≡ 11 → ⊥) → nodes′ ≡ nodes)
@@ -64,9 +65,10 @@ module _ (l : PreferenceList) (log : List ℤ) where
       let n = result-some number _ k (a .result) in
       (n, a .marks-are ∙ kept number l log marks (λ z. absurd (omega (arith, n, z))))
 
-  pub write-refused : (out : List ℕ) → (writeNumber l log (length out) ≡ 0 → ⊥) → (writeNumber l log (length out) ≤ 10) × (outAfter l log out ≡ out)
-  unfolding outAfter
-  write-refused out h = (write-most l log (length out), rw (ne-eqb (writeNumber l log (length out)) 0 h))
+pub write-refused : (l : PreferenceList) (log : List ℤ) (out : List ℕ) → (writeNumber l log (length out) ≡ 0 → ⊥)
+    → (writeNumber l log (length out) ≤ 10) × (outAfter l log out ≡ out)
+unfolding outAfter
+write-refused l log out h = (write-most l log (length out), rw (ne-eqb (writeNumber l log (length out)) 0 h))
 
 pub level-refused : (l : PreferenceList) (place : ℕ) (value : ℤ) (k : ℕ) → level.outcomeOf (LevelRefused k) ≡ outcome (level.levelNumber l place value) (level.levelAt l place value) → NumberTo 10 k
 level-refused l place value k e =

@@ -4,27 +4,25 @@
 use mathlib.Core.Path.{_≡_, refl}
 use Prim.Native.Nat.{ℕ, _<_}
 use mathlib.Core.Bool.{true}
-use mathlib.Core.List.{List}
 use lib.Dec.{eqb}
-use lib.IntN.{ℤ}
 use borrow.Author.Tests.{eqb-true, eq-eqb}
 use Rattle.laws.specs.Lists.{anyOf}
 use Rattle.laws.specs.Laws.AnyOf.{passing-found, passing-any}
-use Rattle.runs.specs.Log.{rowCount}
+use Rattle.runs.specs.Log.{Log, rowCount}
 use Rattle.preference.specs.declared.PreferenceList.{PreferenceList}
 use Rattle.pareto.specs.Best.{isBest, bestMatches}
 use Rattle.pareto.specs.Laws.Best.{BestMatch, best-match, match-best}
 
-module _ (l : PreferenceList) (log : List ℤ) (r : ℕ) where
+module _ (l : PreferenceList) (log : Log) (r : ℕ) where
   -- a row that is named is a best match of the log
-  pub named-best : anyOf (eqb r) (bestMatches l log) ≡ true → (r < rowCount log) × BestMatch l log r
+  pub named-best : anyOf (eqb r) (bestMatches l log) ≡ true → (r < rowCount (log .values)) × BestMatch l log r
   unfolding bestMatches
   named-best e =
-      let f = passing-found (eqb r) (isBest l log) (rowCount log) e in
+      let f = passing-found (eqb r) (isBest l log) (rowCount (log .values)) e in
       let same : r ≡ f .at = eqb-true r (f .at) (f .holds) in
       rw same (f .below, best-match l log (f .at) (f .passes))
 
   -- and every best match is named
-  pub best-named : r < rowCount log → BestMatch l log r → anyOf (eqb r) (bestMatches l log) ≡ true
+  pub best-named : r < rowCount (log .values) → BestMatch l log r → anyOf (eqb r) (bestMatches l log) ≡ true
   unfolding bestMatches
-  best-named h b = passing-any (eqb r) (isBest l log) (rowCount log) r h (match-best l log r b) (eq-eqb r r refl)
+  best-named h b = passing-any (eqb r) (isBest l log) (rowCount (log .values)) r h (match-best l log r b) (eq-eqb r r refl)

@@ -4,12 +4,12 @@ use mathlib.Core.Path.{_≡_, sym, ap, _∙_}
 use Prim.Native.Nat.{ℕ, _+_, _-_, _*_, _/_, _≤_, _<_}
 use native.Mathlib.Omega.{arith}
 use mathlib.Core.List.{List}
-use lib.IntN.{ℤ, pos, natAbs}
+use lib.IntN.{pos, natAbs}
 use lib.ListN.{length, getD}
 use borrow.Author.Tests.{le-ltb, eq-eqb}
 use Rattle.laws.specs.Checks.{_gives_, _then_}
 use Rattle.laws.specs.Laws.Outcome.{accepted-number}
-use Rattle.runs.specs.Log.{rowCount}
+use Rattle.runs.specs.Log.{Log, rowCount}
 use Rattle.preference.specs.declared.PreferenceList.{PreferenceList}
 use Rattle.pareto.specs.Best.{competing, bestMatches, isBest}
 use Rattle.pareto.specs.Checked.{marksNumber, checkedNumber}
@@ -30,13 +30,13 @@ use Rattle.agreement.specs.Calls.{Accepted}
 use Rattle.agreement.specs.Laws.After.{call-mark, result-none}
 use Rattle.agreement.specs.Laws.Counts.{crossed-outcome, compared-outcome, window-bound, sizes-number, one-best}
 
-module _ (l : PreferenceList) (log : List ℤ) where
+module _ (l : PreferenceList) (log : Log) where
   -- "the accepted calls of the lattice engine and the window engine write the same marks", the flat calls too
-  pub same-marks : (a b : List ℕ) → Accepted l log a → Accepted l log b → (r : ℕ) → r < rowCount log → getD a r 0 ≡ getD b r 0
+  pub same-marks : (a b : List ℕ) → Accepted l log a → Accepted l log b → (r : ℕ) → r < rowCount (log .values) → getD a r 0 ≡ getD b r 0
   same-marks a b p q r h = call-mark l log a p r h ∙ sym (call-mark l log b q r h)
 
   -- "A row's mark is 1 exactly when it is on 01's shortlist, the competing rows that no competing row betters, and else 0."
-  pub mark-shortlist : (a : List ℕ) → Accepted l log a → (r : ℕ) → r < rowCount log
+  pub mark-shortlist : (a : List ℕ) → Accepted l log a → (r : ℕ) → r < rowCount (log .values)
       → (getD a r 0 ≡ 1 → BestMatch l log r) × (BestMatch l log r → getD a r 0 ≡ 1) × (getD a r 0 ≤ 1)
   mark-shortlist a p r h =
       let m = call-mark l log a p r h in
@@ -44,8 +44,8 @@ module _ (l : PreferenceList) (log : List ℤ) where
       (λ e. best-match l log r (o .0 (sym m ∙ e)), λ b. m ∙ o .1 (match-best l log r b), omega (arith, m, o .2))
 
   -- "A reordered row takes its mark along.", whichever two calls were made
-  pub reordered-row : (log′ : List ℤ) (place origin : ℕ → ℕ) → Reordered log log′ place origin → (a b : List ℕ) → Accepted l log a → Accepted l log′ b
-      → (r : ℕ) → r < rowCount log → getD b (place r) 0 ≡ getD a r 0
+  pub reordered-row : (log′ : Log) (place origin : ℕ → ℕ) → Reordered log log′ place origin → (a b : List ℕ) → Accepted l log a → Accepted l log′ b
+      → (r : ℕ) → r < rowCount (log .values) → getD b (place r) 0 ≡ getD a r 0
   reordered-row log′ place origin o a b p q r h =
       call-mark l log′ b q (place r) (omega (arith, o .place-below r h, o .same-count)) ∙ reordered-mark l log log′ place origin o r h ∙ sym (call-mark l log a p r h)
 
@@ -77,14 +77,14 @@ flat-result k s marks marks′ best a =
 
 -- ---- the calls that are accepted: "at most 32,768 lattice nodes, .. every window from 1 to 1,024 and every budget of at least the crossings"
 
-module _ (l : PreferenceList) (log : List ℤ) (marks : ℕ) where
-  pub lattice-accepts : (nodes budget : ℕ) → checkedNumber l log (marksNumber log marks) ≡ 0 → nodeCount (latticeTops l) ≤ 32768 → nodeCount (latticeTops l) ≤ nodes
+module _ (l : PreferenceList) (log : Log) (marks : ℕ) where
+  pub lattice-accepts : (nodes budget : ℕ) → checkedNumber l log (marksNumber (log .values) marks) ≡ 0 → nodeCount (latticeTops l) ≤ 32768 → nodeCount (latticeTops l) ≤ nodes
       → crossings (latticeTops l) (latticeRows l log) ≤ budget → latticeNumber l log marks nodes budget ≡ 0
   unfolding latticeNumber _gives_ _then_
   lattice-accepts nodes budget z few fit enough =
       rw (z, le-ltb 32768 (nodeCount (latticeTops l)) few, le-ltb nodes (nodeCount (latticeTops l)) fit, le-ltb budget (crossings (latticeTops l) (latticeRows l log)) enough)
 
   -- the same checks of the list, the log and the marks, then the window's size and the work list's
-  pub window-accepts : (work w : ℕ) → checkedNumber l log (marksNumber log marks) ≡ 0 → 1 ≤ w → w ≤ 1024 → 2 * (rowCount log + w) ≤ work → windowNumber l log marks work w ≡ 0
+  pub window-accepts : (work w : ℕ) → checkedNumber l log (marksNumber (log .values) marks) ≡ 0 → 1 ≤ w → w ≤ 1024 → 2 * (rowCount (log .values) + w) ≤ work → windowNumber l log marks work w ≡ 0
   unfolding windowNumber
   window-accepts work w z some narrow room = ap (checkedNumber l log) (sizes-number log marks work w some narrow room) ∙ z

@@ -2,16 +2,16 @@
 use mathlib.Core.Path.{_≡_, refl, sym, _∙_}
 use Prim.Native.Nat.{ℕ}
 use mathlib.Core.List.{List}
-use lib.IntN.{ℤ}
 use lib.ListN.{length}
 use borrow.Author.Tests.{eq-eqb, ne-eqb}
 use Rattle.laws.specs.Laws.Outcome.{outcome-accepted, outcome-refused}
+use Rattle.runs.specs.Log.{Log}
 use Rattle.preference.specs.declared.PreferenceList.{PreferenceList}
 use Rattle.pareto.specs.Best.{marksAfter, marksLeft}
 use Rattle.bnl.specs.Engine.{windowNumber, machineOf, Answered}
 use Rattle.bnl.specs.declared.WindowAnswer.the-variants.{Compared, Refused}
 
-module _ (l : PreferenceList) (log : List ℤ) (w : ℕ) (marks work : List ℕ) (n : ℕ) (e : n ≡ windowNumber l log (length marks) (length work) w) where
+module _ (l : PreferenceList) (log : Log) (w : ℕ) (marks work : List ℕ) (n : ℕ) (e : n ≡ windowNumber l log (length marks) (length work) w) where
   pub refused-answer : (n ≡ 0 → ⊥) → Answered l log w marks marks work work (Refused n)
   unfolding marksLeft
   refused-answer h = record {

@@ -3,8 +3,7 @@ use mathlib.Core.Path.{_≡_}
 use Prim.Native.Nat.{ℕ}
 use native.Mathlib.Omega.{arith}
 use mathlib.Core.List.{List}
-use lib.IntN.{ℤ}
-use Rattle.runs.specs.Log.{rowCount}
+use Rattle.runs.specs.Log.{Log, rowCount}
 use Rattle.preference.specs.declared.PreferenceList.{PreferenceList}
 use Rattle.pareto.specs.Best.{competing}
 use Rattle.level_table.specs.Table.{tableOf}
@@ -16,7 +15,7 @@ use Rattle.bnl.specs.Engine.{machineOf}
 use Rattle.bnl.specs.Laws.Accepted.{Accepted}
 use Rattle.bnl.specs.Laws.Marks.{machine-table}
 
-module _ (l : PreferenceList) (log : List ℤ) (marks work w : ℕ) (g : Accepted l log marks work w) where
+module _ (l : PreferenceList) (log : Log) (marks work w : ℕ) (g : Accepted l log marks work w) where
   -- the competing rows can wait
   pub rows-wait : Waits w (competing log) work
   rows-wait = record {
@@ -27,5 +26,5 @@ module _ (l : PreferenceList) (log : List ℤ) (marks work w : ℕ) (g : Accepte
   }
 
   -- the machine on the level table is the machine on the log
-  pub filled-machine : (t rows : List ℕ) (n : ℕ) → t ≡ tableOf l log → rows ≡ competing log → n ≡ rowCount log → machine (tableDominates t) w rows n ≡ machineOf l log w
+  pub filled-machine : (t rows : List ℕ) (n : ℕ) → t ≡ tableOf l (log .values) → rows ≡ competing log → n ≡ rowCount (log .values) → machine (tableDominates t) w rows n ≡ machineOf l log w
   filled-machine t rows n e r m = rw (e, r, m) (machine-table l log (g .list) (g .values) w)

@@ -3,6 +3,7 @@ use preference::PreferenceList;
 ghost use mathlib.Core.Path.{_≡_};
 ghost use Prim.Native.Nat.{ℕ, _+_, _*_, _/_, _<_, _≤_};
 ghost use lib.ListN.{length};
+ghost use Rattle.runs.specs.Log.{logOf};
 ghost use Rattle.pareto.specs.Best.{marksAfter};
 ghost use Rattle.bnl.specs.Engine.{sizesNumber, machineOf, Answered};
 ghost use Rattle.bnl.specs.Laws.Accepted.{Accepted};
@@ -15,7 +16,7 @@ pub enum WindowAnswer {
 
 // 10 where the marks or the work list are too short, or w is not 1 to 1,024.
 fn sizes_number(log: &[i32], marks: usize, work: usize, w: u32) -> u8
-    ensures { λ k. ⌜ k ≡ sizesNumber (now (log .entry)) marks work w ⌝ }
+    ensures { λ k. ⌜ k ≡ sizesNumber (logOf (now (log .entry))) marks work w ⌝ }
 {
     let n = log.len() / 8;
     if marks < n {
@@ -35,8 +36,10 @@ fn run_accepted(
     work: &mut [u32],
     w: u32,
 ) -> u32
-    requires { ⌜ Accepted list (now log) (length (now marks)) (length (now work)) w ⌝ }
-    ensures { λ c. ⌜ (c ≡ machineOf list (now (log .entry)) w .count) × (now (marks .exit) ≡ marksAfter list (now (log .entry)) (now (marks .entry))) ⌝ }
+    requires { ⌜ Accepted list (logOf (now log)) (length (now marks)) (length (now work)) w ⌝ }
+    ensures { λ c.
+        ⌜ (c ≡ machineOf list (logOf (now (log .entry))) w .count)
+        × (now (marks .exit) ≡ marksAfter list (logOf (now (log .entry))) (now (marks .entry))) ⌝ }
 {
     let n = log.len() / 8;
     let mut table = [0u16; 8192];
@@ -61,7 +64,9 @@ pub fn run(
     work: &mut [u32],
     w: u32,
 ) -> WindowAnswer
-    ensures { λ r. ⌜ Answered list (now (log .entry)) w (now (marks .entry)) (now (marks .exit)) (now (work .entry)) (now (work .exit)) r ⌝ }
+    ensures { λ r.
+        ⌜ Answered list (logOf (now (log .entry))) w (now (marks .entry)) (now (marks .exit))
+        (now (work .entry)) (now (work .exit)) r ⌝ }
 {
     let number = pareto::checked_number(list, log, sizes_number(log, marks.len(), work.len(), w));
     if number != 0 {

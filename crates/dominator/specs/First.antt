@@ -4,10 +4,9 @@ use Prim.Native.Nat.{ℕ, _<_, _≤_}
 use mathlib.Core.Bool.{Bool, not, _&&_, cond}
 use mathlib.Core.List.{List, [], _∷_}
 use lib.Dec.{eqb}
-use lib.IntN.{ℤ}
 use Rattle.laws.specs.First.{firstAt}
 use Rattle.laws.specs.Lists.{anyOf}
-use Rattle.runs.specs.Log.{rowCount}
+use Rattle.runs.specs.Log.{Log, rowCount}
 use Rattle.preference.specs.Valid.{listNumber}
 use Rattle.preference.specs.declared.PreferenceList.{PreferenceList}
 use Rattle.pareto.specs.Best.{rowDominates, isBest}
@@ -15,19 +14,19 @@ use Rattle.pareto.specs.Checked.{rowsNumber}
 use Rattle.pareto.specs.Table.{firstDominates, compared}
 
 -- row s is on the shortlist and betters row r
-abbrev pub bestDominates : PreferenceList → List ℤ → ℕ → ℕ → Bool
+abbrev pub bestDominates : PreferenceList → Log → ℕ → ℕ → Bool
 bestDominates l log r s = isBest l log s && rowDominates l log s r
 
 -- the first such row; the number of rows where there is none
-unfoldable pub firstDominator : PreferenceList → List ℤ → ℕ → ℕ
-firstDominator l log row = firstAt (bestDominates l log row) (rowCount log)
+unfoldable pub firstDominator : PreferenceList → Log → ℕ → ℕ
+firstDominator l log row = firstAt (bestDominates l log row) (rowCount (log .values))
 
 -- what the checks leave
-pub record Accepted (l : PreferenceList) (log : List ℤ) (row : ℕ) : Type 0 where
+pub record Accepted (l : PreferenceList) (log : Log) (row : ℕ) : Type 0 where
   pub list : listNumber l ≡ 0
-  pub values : rowsNumber l log ≡ 0
-  pub few : rowCount log ≤ 1024
-  pub is-row : row < rowCount log
+  pub values : rowsNumber l (log .values) ≡ 0
+  pub few : rowCount (log .values) ≤ 1024
+  pub is-row : row < rowCount (log .values)
 
 -- ---- the search in a table and a list of its rows
 

@@ -2,6 +2,7 @@
 use preference::PreferenceList;
 ghost use mathlib.Core.Path.{_≡_};
 ghost use Rattle.laws.specs.Lists.{anyOf};
+ghost use Rattle.runs.specs.Log.{logOf};
 ghost use Rattle.dominator.specs.First.{beats, bestBeats, firstOf, firstDominator, Accepted};
 ghost use Rattle.dominator.specs.Engine.{Answered};
 
@@ -52,8 +53,8 @@ fn first_dominator(table: &[u16], rows: &[usize], row: usize, none: usize) -> us
 
 // The search among the competing rows of what the checks accepted.
 fn first_of_log(list: PreferenceList, log: &[i32], row: usize) -> usize
-    requires { ⌜ Accepted list (now log) row ⌝ }
-    ensures { λ s. ⌜ s ≡ firstDominator list (now (log .entry)) row ⌝ }
+    requires { ⌜ Accepted list (logOf (now log)) row ⌝ }
+    ensures { λ s. ⌜ s ≡ firstDominator list (logOf (now (log .entry))) row ⌝ }
 {
     let n = log.len() / 8;
     let mut table = [0u16; 8192];
@@ -66,7 +67,7 @@ fn first_of_log(list: PreferenceList, log: &[i32], row: usize) -> usize
 
 // Answers with a row of the shortlist that betters the asked one.
 pub fn of(list: PreferenceList, log: &[i32], row: u32) -> DominatorAnswer
-    ensures { λ r. ⌜ Answered list (now (log .entry)) row r ⌝ }
+    ensures { λ r. ⌜ Answered list (logOf (now (log .entry))) row r ⌝ }
 {
     let number = pareto::checked_number(list, log, 0);
     if number != 0 {

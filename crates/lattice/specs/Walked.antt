@@ -2,7 +2,7 @@
 -- crossings and their bound is said of this lattice.
 use Prim.Native.Nat.{ℕ}
 use mathlib.Core.List.{List, map}
-use lib.IntN.{ℤ}
+use Rattle.runs.specs.Log.{Log}
 use Rattle.preference.specs.Parts.{maxLevels}
 use Rattle.preference.specs.declared.PreferenceList.{PreferenceList}
 use Rattle.pareto.specs.Best.{competing, vectorAt}
@@ -12,9 +12,9 @@ unfoldable pub latticeTops : PreferenceList → List ℕ
 latticeTops l = maxLevels l
 
 -- the vector of row r in it
-unfoldable pub latticeRow : PreferenceList → List ℤ → ℕ → List ℕ
+unfoldable pub latticeRow : PreferenceList → Log → ℕ → List ℕ
 latticeRow l log r = vectorAt l log r
 
 -- the vectors of the competing rows in it
-unfoldable pub latticeRows : PreferenceList → List ℤ → List (List ℕ)
+unfoldable pub latticeRows : PreferenceList → Log → List (List ℕ)
 latticeRows l log = map (latticeRow l log) (competing log)

@@ -4,6 +4,7 @@ use mathlib.Core.List.{List, [], _∷_}
 use mathlib.Core.Path.{_≡_}
 use lib.IntN.{ℤ}
 use Rattle.laws.specs.Outcome.{Outcome, accepted, refused, outcome}
+use Rattle.runs.specs.Log.{Log}
 use Rattle.preference.specs.Level.{levelNumber, levelAt, maxAt}
 use Rattle.pareto.specs.Best.{marksOf}
 use Rattle.nodes.specs.Lattice.{nodeCount, crossings, bound}
@@ -18,15 +19,15 @@ pub data Question : Type 0 where
   -- M of the preference at a place
   maxAsked : PreferenceList → ℕ → Question
   -- the marks of a log
-  marksAsked : PreferenceList → List ℤ → Question
+  marksAsked : PreferenceList → Log → Question
   -- the marks that the window machine leaves, with a window
-  machineAsked : PreferenceList → List ℤ → ℕ → Question
+  machineAsked : PreferenceList → Log → ℕ → Question
   -- the nodes of a list's lattice, a log's crossings, and their bound
-  latticeAsked : PreferenceList → List ℤ → Question
+  latticeAsked : PreferenceList → Log → Question
   -- a call of the lattice engine, with so many mark bytes and node bytes, and a budget
-  latticeCalled : PreferenceList → List ℤ → ℕ → ℕ → ℕ → Question
+  latticeCalled : PreferenceList → Log → ℕ → ℕ → ℕ → Question
   -- a call of the window engine, with so many mark bytes and numbers in the work list, and a window
-  windowCalled : PreferenceList → List ℤ → ℕ → ℕ → ℕ → Question
+  windowCalled : PreferenceList → Log → ℕ → ℕ → ℕ → Question
 
 pub data Answer : Type 0 where
   ends : Outcome ℕ → Answer

@@ -4,6 +4,7 @@ use mathlib.Core.List.{List, [], _∷_, _++_}
 use lib.IntN.{ℤ, pos, negsuc}
 use lib.ListN.{length, replicate}
 use Rattle.laws.specs.Outcome.{accepted, refused}
+use Rattle.runs.specs.Log.{Log, logOf}
 use Rattle.constructor.specs.declared.Constructor.{Constructor}
 use Rattle.constructor.specs.declared.Constructor.the-variants.{Lowest, Highest, Around, Between, Layered}
 use Rattle.preference.specs.List.{zeroPreference, zeroNamed}
@@ -60,37 +61,41 @@ harbour =
 abbrev pub run : ℕ → ℕ → ℕ → List ℤ
 run hours metres density = pos hours ∷ pos metres ∷ pos density ∷ pos 0 ∷ pos 0 ∷ pos 0 ∷ pos 0 ∷ pos 0 ∷ []
 
-abbrev pub harbourLog : List ℤ
-harbourLog = run 800 900 1300 ++ run 650 1000 1400 ++ run 700 850 1250 ++ run 720 880 1210 ++ run 810 900 1270
+abbrev pub harbourLog : Log
+harbourLog = logOf (run 800 900 1300 ++ run 650 1000 1400 ++ run 700 850 1250 ++ run 720 880 1210 ++ run 810 900 1270)
 
 -- two LOWEST wishes by 1, with so many levels above 0
 abbrev pub twoLowest : ℕ → ℕ → PreferenceList
 twoLowest m n = listOf (record { column = 1; constructor = Lowest (pos 0) (pos m) 1 } ∷ record { column = 2; constructor = Lowest (pos 0) (pos n) 1 } ∷ []) []
 
-abbrev pub marks : PreferenceList → List ℤ → List ℕ → Case
+abbrev pub marks : PreferenceList → Log → List ℕ → Case
 marks l log m = record { asks = marksAsked l log; expects = figures m }
 
-abbrev pub lattice : PreferenceList → List ℤ → List ℕ → Case
+abbrev pub lattice : PreferenceList → Log → List ℕ → Case
 lattice l log n = record { asks = latticeAsked l log; expects = figures n }
 
 -- the lattice engine with a budget, marks and node bytes enough
-abbrev pub crossed : PreferenceList → List ℤ → ℕ → ℕ → ℕ → ℕ → Case
+abbrev pub crossed : PreferenceList → Log → ℕ → ℕ → ℕ → ℕ → Case
 crossed l log rows nodes budget n = record { asks = latticeCalled l log rows nodes budget; expects = ends (accepted n) }
 
-abbrev pub notCrossed : PreferenceList → List ℤ → ℕ → ℕ → ℕ → ℕ → Case
+abbrev pub notCrossed : PreferenceList → Log → ℕ → ℕ → ℕ → ℕ → Case
 notCrossed l log rows nodes budget k = record { asks = latticeCalled l log rows nodes budget; expects = ends (refused k) }
 
 -- the window engine with window w, marks and a work list enough
-abbrev pub compared : PreferenceList → List ℤ → ℕ → ℕ → ℕ → Case
+abbrev pub compared : PreferenceList → Log → ℕ → ℕ → ℕ → Case
 compared l log rows w n = record { asks = windowCalled l log rows (2 * (rows + w)) w; expects = ends (accepted n) }
 
 -- the marks that the window machine itself leaves
-abbrev pub machineMarks : PreferenceList → List ℤ → ℕ → List ℕ → Case
+abbrev pub machineMarks : PreferenceList → Log → ℕ → List ℕ → Case
 machineMarks l log w m = record { asks = machineAsked l log w; expects = figures m }
 
 -- P10's log: level vectors (2,1) (1,2) (0,5) (1,1)
-abbrev pub fourRuns : List ℤ
-fourRuns = run 1 2 1 ++ run 1 1 2 ++ run 1 0 5 ++ run 1 1 1
+abbrev pub fourRuns : Log
+fourRuns = logOf (run 1 2 1 ++ run 1 1 2 ++ run 1 0 5 ++ run 1 1 1)
+
+-- the log without a run
+abbrev pub noRuns : Log
+noRuns = logOf []
 
 abbrev pub cases : List Case
 cases =
@@ -133,10 +138,10 @@ cases =
     machineMarks (twoLowest 5 5) fourRuns 2 (0 ∷ 0 ∷ 1 ∷ 1 ∷ []) ∷
     compared (twoLowest 5 5) fourRuns 4 2 6 ∷
     -- P11
-    marks harbour [] [] ∷
-    crossed harbour [] 0 88 0 0 ∷
-    compared harbour [] 0 64 0 ∷
+    marks harbour noRuns [] ∷
+    crossed harbour noRuns 0 88 0 0 ∷
+    compared harbour noRuns 0 64 0 ∷
     -- P12
-    crossed (twoLowest 127 255) [] 0 32768 0 0 ∷
-    notCrossed (twoLowest 128 255) [] 0 40000 0 9 ∷
+    crossed (twoLowest 127 255) noRuns 0 32768 0 0 ∷
+    notCrossed (twoLowest 128 255) noRuns 0 40000 0 9 ∷
     []

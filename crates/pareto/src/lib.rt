@@ -7,7 +7,7 @@ ghost use mathlib.Core.Bool.{Bool};
 ghost use lib.ListN.{length, set};
 ghost use lib.Seq.{sets};
 ghost use Rattle.laws.specs.First.{anyBelow};
-ghost use Rattle.runs.specs.Log.{rowAt};
+ghost use Rattle.runs.specs.Log.{rowAt, logOf};
 ghost use Rattle.preference.specs.Parts.{rowNumber};
 ghost use Rattle.pareto.specs.Best.{competes, competing};
 ghost use Rattle.pareto.specs.Checked.{rowsNumber, checkedNumber};
@@ -38,7 +38,7 @@ pub fn rows_number(list: PreferenceList, log: &[i32]) -> u8
 
 // The checks that engines share: the list, the log, the number of what a call adds under 10, then 8.
 pub fn checked_number(list: PreferenceList, log: &[i32], more: u8) -> u8
-    ensures { λ k. ⌜ k ≡ checkedNumber list (now (log .entry)) more ⌝ }
+    ensures { λ k. ⌜ k ≡ checkedNumber list (logOf (now (log .entry))) more ⌝ }
 {
     let of_list = preference::number(list);
     if of_list != 0 {
@@ -58,7 +58,7 @@ pub fn checked_number(list: PreferenceList, log: &[i32], more: u8) -> u8
 
 // Whether a row competes.
 pub fn row_competes(log: &[i32], r: usize) -> bool
-    ensures { λ b. ⌜ b ≡ competes (now (log .entry)) r ⌝ }
+    ensures { λ b. ⌜ b ≡ competes (logOf (now (log .entry))) r ⌝ }
 {
     true
 }
@@ -74,9 +74,9 @@ fn store_row(rows: &mut [usize], i: usize, r: usize)
 
 // Writes the numbers of the competing rows, in order, to the front of a list, and gives how many there are.
 pub fn competing_rows(log: &[i32], rows: &mut [usize]) -> usize
-    ensures { λ n. ⌜
-        (n ≡ length (competing (now (log .entry))))
-        × (now (rows .exit) ≡ sets (now (rows .entry)) 0 (competing (now (log .entry)))) ⌝ }
+    ensures { λ n.
+        ⌜ (n ≡ length (competing (logOf (now (log .entry)))))
+        × (now (rows .exit) ≡ sets (now (rows .entry)) 0 (competing (logOf (now (log .entry))))) ⌝ }
 {
     let count = runs::row_count(log);
     let mut n: usize = 0;

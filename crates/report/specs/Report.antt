@@ -4,11 +4,10 @@ use Prim.Native.Nat.{ℕ, _≤_}
 use mathlib.Core.Bool.{cond}
 use mathlib.Core.List.{List, [], _++_}
 use lib.Dec.{eqb}
-use lib.IntN.{ℤ}
 use lib.ListN.{length}
 use lib.Seq.{sets}
 use Rattle.laws.specs.Lists.{joined}
-use Rattle.runs.specs.Log.{rowCount}
+use Rattle.runs.specs.Log.{Log, rowCount}
 use Rattle.preference.specs.declared.PreferenceList.{PreferenceList}
 use Rattle.pareto.specs.Best.{isBest, bestMatches}
 use Rattle.selection.specs.Selected.{eitherNumber}
@@ -16,12 +15,12 @@ use Rattle.selection.specs.Stream.{listIn, logIn, afterReading}
 use Rattle.lines.specs.Lines.{refusedText, headText, lineText}
 
 -- a line for each shortlisted row, in order
-unfoldable pub linesText : PreferenceList → List ℤ → List ℕ
-linesText l log = joined (λ r. cond (isBest l log r) (lineText log r) []) (rowCount log)
+unfoldable pub linesText : PreferenceList → Log → List ℕ
+linesText l log = joined (λ r. cond (isBest l log r) (lineText (log .values) r) []) (rowCount (log .values))
 
 -- the text of a list and a log whose checks give number k
-unfoldable pub textOf : ℕ → PreferenceList → List ℤ → List ℕ
-textOf k l log = cond (eqb k 0) (headText (rowCount log) (length (bestMatches l log)) ++ linesText l log) (refusedText k)
+unfoldable pub textOf : ℕ → PreferenceList → Log → List ℕ
+textOf k l log = cond (eqb k 0) (headText (rowCount (log .values)) (length (bestMatches l log)) ++ linesText l log) (refusedText k)
 
 -- the program has a mark byte for each row that a log can have
 unfoldable pub reportNumber : List ℕ → ℕ

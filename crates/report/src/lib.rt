@@ -2,13 +2,16 @@
 use preference::PreferenceList;
 ghost use Prim.Native.Nat.{_<_};
 ghost use Rattle.text.specs.Prints.{Prints};
+ghost use Rattle.runs.specs.Log.{logOf};
 ghost use Rattle.selection.specs.Selected.{eitherNumber};
 ghost use Rattle.report.specs.Report.{Reported, textOf, reportOf};
 
 // The report on a list and a log. Of the two gaps of a result, one is the refusal number and one the number of shortlisted rows.
 fn put_selected(out: &mut [u8], list: PreferenceList, log: &[i32]) -> usize
-    ensures { λ r. ⌜ Prints (now (out .entry)) (now (out .exit)) 0 r (textOf (eitherNumber list (now (log .entry)) 1024) list (now (log .entry))) ⌝ }
-    ensures { λ r. ⌜ eitherNumber list (now (log .entry)) 1024 < 4294967296 ⌝ }
+    ensures { λ r.
+        ⌜ Prints (now (out .entry)) (now (out .exit)) 0 r
+        (textOf (eitherNumber list (logOf (now (log .entry))) 1024) list (logOf (now (log .entry)))) ⌝ }
+    ensures { λ r. ⌜ eitherNumber list (logOf (now (log .entry))) 1024 < 4294967296 ⌝ }
 {
     let mut marks = [0u8; 1024];
     let r = selection::by_either(list, log, &mut marks);

@@ -9,6 +9,14 @@ use Rattle.limits.specs.Limits.{columns, maxValues}
 use Rattle.laws.specs.Checks.{_gives_}
 use Rattle.laws.specs.First.{anyBelow}
 
+-- what engines, marks and numbers are said of; a later order adds what else a log says of its rows as a field
+pub record Log : Type 0 where
+  pub values : List ℤ
+
+-- the log that lent numbers are
+abbrev pub logOf : List ℤ → Log
+logOf numbers = record { values = numbers }
+
 abbrev pub rowCount : List ℤ → ℕ
 rowCount log = length log / columns
 

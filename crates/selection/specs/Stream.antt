@@ -1,17 +1,17 @@
 -- Document 01: "A flat call reads its stream first." What a stream says, read where there is room for every log.
 use Prim.Native.Nat.{ℕ}
 use mathlib.Core.List.{List}
-use lib.IntN.{ℤ}
 use Rattle.laws.specs.Checks.{_then_}
+use Rattle.runs.specs.Log.{Log, logOf}
 use Rattle.preference.specs.declared.PreferenceList.{PreferenceList}
 use Rattle.format.specs.Read.{readOf, valuesOf}
 
 abbrev pub listIn : List ℕ → PreferenceList
 listIn s = readOf s 8192 .list
 
-abbrev pub logIn : List ℕ → List ℤ
-logIn s = valuesOf s
+abbrev pub logIn : List ℕ → Log
+logIn s = logOf (valuesOf s)
 
 -- the number of a call on a stream: reading's, then that of the call on what was read
-unfoldable pub afterReading : List ℕ → (PreferenceList → List ℤ → ℕ) → ℕ
+unfoldable pub afterReading : List ℕ → (PreferenceList → Log → ℕ) → ℕ
 afterReading s number = readOf s 8192 .number then number (listIn s) (logIn s)

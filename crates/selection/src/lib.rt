@@ -7,6 +7,7 @@ ghost use mathlib.Core.Path.{_≡_};
 ghost use Prim.Native.Nat.{_≤_};
 ghost use lib.IntN.{pos, negℤ};
 ghost use lib.ListN.{length};
+ghost use Rattle.runs.specs.Log.{logOf};
 ghost use Rattle.pareto.specs.Best.{markedRows};
 ghost use Rattle.lattice.specs.Engine.{latticeNumber};
 ghost use Rattle.bnl.specs.Engine.{windowNumber};
@@ -52,7 +53,9 @@ fn count_marked(marks: &[u8], n: usize) -> i32
 
 // By the lattice engine, within a budget of crossings.
 pub fn by_lattice(list: PreferenceList, log: &[i32], marks: &mut [u8], budget: u32) -> i32
-    ensures { λ r. ⌜ Selected (latticeNumber list (now (log .entry)) (length (now (marks .entry))) 32768 budget) list (now (log .entry)) (now (marks .entry)) (now (marks .exit)) r ⌝ }
+    ensures { λ r.
+        ⌜ Selected (latticeNumber list (logOf (now (log .entry))) (length (now (marks .entry))) 32768 budget)
+        list (logOf (now (log .entry))) (now (marks .entry)) (now (marks .exit)) r ⌝ }
 {
     let mut nodes = [0u8; 32768];
     match lattice::run(list, log, marks, &mut nodes, budget) {
@@ -63,7 +66,9 @@ pub fn by_lattice(list: PreferenceList, log: &[i32], marks: &mut [u8], budget: u
 
 // By the window engine, with a window of w entries.
 pub fn by_window(list: PreferenceList, log: &[i32], marks: &mut [u8], w: u32) -> i32
-    ensures { λ r. ⌜ Selected (windowNumber list (now (log .entry)) (length (now (marks .entry))) 4096 w) list (now (log .entry)) (now (marks .entry)) (now (marks .exit)) r ⌝ }
+    ensures { λ r.
+        ⌜ Selected (windowNumber list (logOf (now (log .entry))) (length (now (marks .entry))) 4096 w)
+        list (logOf (now (log .entry))) (now (marks .entry)) (now (marks .exit)) r ⌝ }
 {
     let mut work = [0u32; 4096];
     match bnl::run(list, log, marks, &mut work, w) {
@@ -74,7 +79,9 @@ pub fn by_window(list: PreferenceList, log: &[i32], marks: &mut [u8], w: u32) ->
 
 // By the lattice engine, or by the window engine where the lattice is too large.
 pub fn by_either(list: PreferenceList, log: &[i32], marks: &mut [u8]) -> i32
-    ensures { λ r. ⌜ Selected (eitherNumber list (now (log .entry)) (length (now (marks .entry)))) list (now (log .entry)) (now (marks .entry)) (now (marks .exit)) r ⌝ }
+    ensures { λ r.
+        ⌜ Selected (eitherNumber list (logOf (now (log .entry))) (length (now (marks .entry))))
+        list (logOf (now (log .entry))) (now (marks .entry)) (now (marks .exit)) r ⌝ }
 {
     let r = by_lattice(list, log, marks, 262144);
     if arith::same(r, -9) {

@@ -4,14 +4,13 @@ use Prim.Native.Nat.{ℕ, zero, suc, _+_, _-_, _*_, _/_, _≤_}
 use native.Mathlib.Omega.{arith}
 use mathlib.Core.Bool.{Bool, true, false, cond}
 use mathlib.Core.List.{List}
-use lib.IntN.{ℤ}
 use lib.ListN.{length}
 use borrow.Author.Tests.{ne-eqb, le-ltb}
 use Rattle.laws.specs.Outcome.{accepted}
 use Rattle.laws.specs.Laws.Outcome.{accepted-value}
 use Rattle.laws.specs.Checks.{_gives_, _then_}
 use Rattle.laws.specs.Laws.Bools.{false-true}
-use Rattle.runs.specs.Log.{rowCount}
+use Rattle.runs.specs.Log.{Log, rowCount}
 use Rattle.preference.specs.declared.PreferenceList.{PreferenceList}
 use Rattle.pareto.specs.Best.{competing, rowDominates}
 use Rattle.pareto.specs.Checked.{marksNumber}
@@ -30,7 +29,7 @@ pub one-best : (t : Bool) → (mark t ≡ 1 → t ≡ true) × (t ≡ true → m
 one-best true = (λ e. refl, λ e. refl, omega arith)
 one-best false = (λ e. absurd (omega arith), λ e. false-true e, omega arith)
 
-module _ (l : PreferenceList) (log : List ℤ) where
+module _ (l : PreferenceList) (log : Log) where
   pub crossed-outcome : (marks marks′ nodes nodes′ : List ℕ) (budget count : ℕ) → Ran l log marks nodes budget (Crossed count) marks′ nodes′ → count ≡ crossings (latticeTops l) (latticeRows l log)
   crossed-outcome marks marks′ nodes nodes′ budget count a = accepted-value _ _ count (a .ends)
 
@@ -39,7 +38,7 @@ module _ (l : PreferenceList) (log : List ℤ) where
 
   pub window-bound : (w : ℕ) → 1 ≤ w → machineOf l log w .count ≤ length (competing log) * (length (competing log) - 1) / 2
   unfolding machineOf
-  window-bound w some = count-bound-half (rowDominates l log) w (competing log) (rowCount log) some
+  window-bound w some = count-bound-half (rowDominates l log) w (competing log) (rowCount (log .values)) some
 
 -- ---- the sizes that the window engine checks
 
@@ -48,8 +47,8 @@ unfolding _then_
 then-last zero = refl
 then-last (suc a) = refl
 
-pub sizes-number : (log : List ℤ) (marks work w : ℕ) → 1 ≤ w → w ≤ 1024 → 2 * (rowCount log + w) ≤ work → sizesNumber log marks work w ≡ marksNumber log marks
+pub sizes-number : (log : Log) (marks work w : ℕ) → 1 ≤ w → w ≤ 1024 → 2 * (rowCount (log .values) + w) ≤ work → sizesNumber log marks work w ≡ marksNumber (log .values) marks
 unfolding sizesNumber _then_
 sizes-number log marks work w some narrow room =
-    rw (ne-eqb w 0 (λ e. absurd (omega arith)), le-ltb 1024 w narrow, le-ltb work (2 * (rowCount log + w)) room)
-    (unfold _gives_ in then-last (marksNumber log marks))
+    rw (ne-eqb w 0 (λ e. absurd (omega arith)), le-ltb 1024 w narrow, le-ltb work (2 * (rowCount (log .values) + w)) room)
+    (unfold _gives_ in then-last (marksNumber (log .values) marks))

@@ -9,7 +9,7 @@ use lib.IntN.{ℤ}
 use lib.ListN.{length, getD, drop}
 use borrow.Author.Needs.{needs}
 use Rattle.laws.specs.Checks.{_gives_, _then_}
-use Rattle.runs.specs.Log.{logNumber}
+use Rattle.runs.specs.Log.{Log, logNumber}
 use Rattle.preference.specs.Level.{levelNumber}
 use Rattle.preference.specs.declared.PreferenceList.{PreferenceList}
 use Rattle.pareto.specs.Checked.{marksNumber}
@@ -24,16 +24,16 @@ use Rattle.lattice.specs.Engine.{latticeNumber}
 use Rattle.bnl.specs.Engine.{sizesNumber, windowNumber}
 use Rattle.dominator.specs.Engine.{dominatorNumber}
 
-pub lattice-most : (l : PreferenceList) (log : List ℤ) (marks nodes budget : ℕ) → latticeNumber l log marks nodes budget ≤ 11
+pub lattice-most : (l : PreferenceList) (log : Log) (marks nodes budget : ℕ) → latticeNumber l log marks nodes budget ≤ 11
 unfolding latticeNumber
 lattice-most l log marks nodes budget =
-    then-most 11 _ _ (le-trans (checked-most l log (marksNumber log marks) (gives-most 10 _ 10 (omega arith))) (omega arith)) (search (needs, gives-most, then-most))
+    then-most 11 _ _ (le-trans (checked-most l log (marksNumber (log .values) marks) (gives-most 10 _ 10 (omega arith))) (omega arith)) (search (needs, gives-most, then-most))
 
-pub window-most : (l : PreferenceList) (log : List ℤ) (marks work w : ℕ) → windowNumber l log marks work w ≤ 10
+pub window-most : (l : PreferenceList) (log : Log) (marks work w : ℕ) → windowNumber l log marks work w ≤ 10
 unfolding windowNumber sizesNumber
 window-most l log marks work w = checked-most l log (sizesNumber log marks work w) (search (needs, gives-most, then-most))
 
-pub dominator-most : (l : PreferenceList) (log : List ℤ) (row : ℕ) → dominatorNumber l log row ≤ 13
+pub dominator-most : (l : PreferenceList) (log : Log) (row : ℕ) → dominatorNumber l log row ≤ 13
 unfolding dominatorNumber
 dominator-most l log row = then-most 13 _ _ (le-trans (checked-most l log 0 (omega arith)) (omega arith)) (search (needs, gives-most, then-most))
 

@@ -1,4 +1,5 @@
 use mathlib.Core.Path.{sym, ap, _∙_}
+use Rattle.runs.specs.Log.{logOf}
 use Rattle.pareto.specs.Checked.{checkedNumber}
 use Rattle.bnl.specs.Engine.{windowNumber}
 use Rattle.bnl.specs.Laws.Accepted.{accepted}
@@ -19,16 +20,16 @@ unfolding windowNumber
 returns c =
     let a = c .before .before .before .before .before .args in
     let n = c .before .checked-number in
-    refused-answer (a .list) (a .log .now) (a .w) (a .marks .now) (a .work .now) (n .result)
-    (n .ensures ∙ ap (checkedNumber (a .list) (a .log .now)) (c .before .before .sizes-number .ensures)) (c .if1 .taken)
+    refused-answer (a .list) (logOf (a .log .now)) (a .w) (a .marks .now) (a .work .now) (n .result)
+    (n .ensures ∙ ap (checkedNumber (a .list) (logOf (a .log .now))) (c .before .before .sizes-number .ensures)) (c .if1 .taken)
 
 run-accepted-requires : tie.Need-run-accepted-requires
 unfolding windowNumber
 run-accepted-requires c κs =
     let b = c .before .before in
     let a = b .before .before .before .before .before .args in
-    accepted (a .list) (a .log .now) (length (a .marks .now)) (length (a .work .now)) (a .w)
-    (sym (b .before .checked-number .ensures ∙ ap (checkedNumber (a .list) (a .log .now)) (b .before .before .sizes-number .ensures)) ∙ b .if1 .left)
+    accepted (a .list) (logOf (a .log .now)) (length (a .marks .now)) (length (a .work .now)) (a .w)
+    (sym (b .before .checked-number .ensures ∙ ap (checkedNumber (a .list) (logOf (a .log .now))) (b .before .before .sizes-number .ensures)) ∙ b .if1 .left)
 
 same-length : tie.Need-same-length
 same-length c = search needs
@@ -43,8 +44,8 @@ returns-2 c =
     let a = b .before .before .before .before .before .args in
     let n = b .before .checked-number in
     let r = c .before .before .before .before .run-accepted in
-    accepted-answer (a .list) (a .log .now) (a .w) (a .marks .now) (a .work .now) (n .result)
-    (n .ensures ∙ ap (checkedNumber (a .list) (a .log .now)) (b .before .before .sizes-number .ensures)) (b .if1 .left)
+    accepted-answer (a .list) (logOf (a .log .now)) (a .w) (a .marks .now) (a .work .now) (n .result)
+    (n .ensures ∙ ap (checkedNumber (a .list) (logOf (a .log .now))) (b .before .before .sizes-number .ensures)) (b .if1 .left)
     (r .last .1 .1 .0) (r .last .1 .1 .1 .0) (r .result) (r .ensures .0) (r .ensures .1)
 
 pub run-spec : {M : Type 1} → statement M

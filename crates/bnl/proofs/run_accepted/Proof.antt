@@ -2,11 +2,10 @@ use mathlib.Core.Path.{_≡_, sym, ap, _∙_}
 use mathlib.Core.List.{List, _++_}
 use Prim.Native.Nat.{ℕ, _≤_}
 use native.Mathlib.Omega.{arith}
-use lib.IntN.{ℤ}
 use lib.ListN.{length, take, drop, replicate, length-replicate}
 use lib.Seq.{length-take-le}
 use borrow.Author.Needs.{needs}
-use Rattle.runs.specs.Log.{rowCount}
+use Rattle.runs.specs.Log.{Log, logOf, rowCount}
 use Rattle.pareto.specs.Best.{competing, marksAfter}
 use Rattle.level_table.specs.Table.{tableOf}
 use Rattle.level_table.specs.Laws.Table.{table-fits, handed-fits, table-handed}
@@ -33,8 +32,8 @@ module _ (d : tie.After-competing-rows) where
   abbrev long : ℕ
   long = d .before .before .before .before .before .table-length .result
 
-  abbrev log : List ℤ
-  log = start .args .log .now
+  abbrev log : Log
+  log = logOf (start .args .log .now)
 
   abbrev table : List ℕ
   table = d .before .before .before .fill-table .last .1 .1 .0 ++ drop long zeros
@@ -45,12 +44,12 @@ module _ (d : tie.After-competing-rows) where
   table-long : long ≤ length table
   table-long =
       let t = d .before .before .before .before .before in
-      handed-fits (start .args .list) log zeros long (t .table-length .ensures) (fits t) _ (d .before .before .before .fill-table .ensures)
+      handed-fits (start .args .list) (log .values) zeros long (t .table-length .ensures) (fits t) _ (d .before .before .before .fill-table .ensures)
 
-  table-is : take long table ≡ tableOf (start .args .list) log
+  table-is : take long table ≡ tableOf (start .args .list) (log .values)
   table-is =
       let t = d .before .before .before .before .before in
-      table-handed (start .args .list) log zeros long (t .table-length .ensures) (fits t) _ (d .before .before .before .fill-table .ensures)
+      table-handed (start .args .list) (log .values) zeros long (t .table-length .ensures) (fits t) _ (d .before .before .before .fill-table .ensures)
 
   rows-long : d .competing-rows .result ≤ length rows
   rows-long = omega (arith, start .pre .few, d .competing-rows .ensures .0, competing-few log, d .competing-rows .kept .1 .0, length-replicate {A = ℕ} 1024 0)
@@ -60,11 +59,11 @@ module _ (d : tie.After-competing-rows) where
       competing-front log _ rows (d .competing-rows .result) (omega (arith, start .pre .few, length-replicate {A = ℕ} 1024 0))
       (d .competing-rows .ensures .0) (d .competing-rows .ensures .1)
 
-  marks-long : length (take (rowCount log) (start .args .marks .now)) ≡ rowCount log
+  marks-long : length (take (rowCount (log .values)) (start .args .marks .now)) ≡ rowCount (log .values)
   marks-long = length-take-le _ (start .args .marks .now) (start .pre .marked)
 
   -- the machine that runs is the machine on the log
-  runs : machine (tableDominates (take long table)) (start .args .w) (take (d .competing-rows .result) rows) (length (take (rowCount log) (start .args .marks .now)))
+  runs : machine (tableDominates (take long table)) (start .args .w) (take (d .competing-rows .result) rows) (length (take (rowCount (log .values)) (start .args .marks .now)))
       ≡ machineOf (start .args .list) log (start .args .w)
   runs = filled-machine (start .args .list) log _ _ (start .args .w) (start .pre) _ _ _ table-is rows-are marks-long
 
@@ -108,13 +107,13 @@ run-rows-requires : tie.Need-run-rows-requires
 run-rows-requires c κs =
     let d = c .before .before .before .before .before in
     let s = start d in
-    rw (rows-are d) (rows-wait (s .args .list) (s .args .log .now) _ _ (s .args .w) (s .pre))
+    rw (rows-are d) (rows-wait (s .args .list) (logOf (s .args .log .now)) _ _ (s .args .w) (s .pre))
 
 cast-result : tie.Need-cast-result
 cast-result c =
     let d = c .before .before .before .before .before .before .before .before .before .before in
     let s = start d in
-    omega (arith, c .before .before .before .before .run-rows .ensures .0 ∙ ap (λ (st : State). st .count) (runs d), count-small (s .args .list) (s .args .log .now) (s .args .w) (s .pre .some) (s .pre .few))
+    omega (arith, c .before .before .before .before .run-rows .ensures .0 ∙ ap (λ (st : State). st .count) (runs d), count-small (s .args .list) (logOf (s .args .log .now)) (s .args .w) (s .pre .some) (s .pre .few))
 
 same-length : tie.Need-same-length
 same-length c = search needs
@@ -130,7 +129,7 @@ returns c =
     let r = c .before .before .before .before .run-rows .ensures in (
       r .0 ∙ ap (λ (st : State). st .count) (runs d),
       ap (λ (x : List ℕ). x ++ drop (rowCount (a .log .now)) (a .marks .now))
-          (r .1 ∙ ap (λ (st : State). st .marks) (runs d) ∙ machine-best (a .list) (a .log .now) (a .w) (start d .pre .some)),
+          (r .1 ∙ ap (λ (st : State). st .marks) (runs d) ∙ machine-best (a .list) (logOf (a .log .now)) (a .w) (start d .pre .some)),
     )
 
 pub run-accepted-spec : {M : Type 1} → statement M

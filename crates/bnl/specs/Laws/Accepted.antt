@@ -3,45 +3,43 @@ use mathlib.Core.Path.{_≡_}
 use Prim.Native.Nat.{ℕ, _+_, _*_, _≤_}
 use native.Mathlib.Omega.{arith}
 use mathlib.Core.Bool.{_||_}
-use mathlib.Core.List.{List}
 use lib.Dec.{ltb, eqb}
-use lib.IntN.{ℤ}
 use borrow.Author.Tests.{ltb-false, eqb-false}
 use Rattle.laws.specs.Checks.{_gives_, _then_}
 use Rattle.laws.specs.Laws.Bools.{neither}
 use Rattle.laws.specs.Laws.Checks.{gives-none, then-none}
-use Rattle.runs.specs.Log.{rowCount, logNumber}
+use Rattle.runs.specs.Log.{Log, rowCount, logNumber}
 use Rattle.runs.specs.Laws.Log as runs
 use Rattle.preference.specs.Valid.{listNumber}
 use Rattle.preference.specs.declared.PreferenceList.{PreferenceList}
 use Rattle.pareto.specs.Checked.{marksNumber, rowsNumber, checkedNumber}
 use Rattle.bnl.specs.Engine.{sizesNumber, windowNumber}
 
-pub record Accepted (l : PreferenceList) (log : List ℤ) (marks work w : ℕ) : Type 0 where
+pub record Accepted (l : PreferenceList) (log : Log) (marks work w : ℕ) : Type 0 where
   pub list : listNumber l ≡ 0
-  pub values : rowsNumber l log ≡ 0
-  pub few : rowCount log ≤ 1024
-  pub marked : rowCount log ≤ marks
+  pub values : rowsNumber l (log .values) ≡ 0
+  pub few : rowCount (log .values) ≤ 1024
+  pub marked : rowCount (log .values) ≤ marks
   pub some : 1 ≤ w
   pub narrow : w ≤ 1024
-  pub room : 2 * (rowCount log + w) ≤ work
+  pub room : 2 * (rowCount (log .values) + w) ≤ work
 
-pub accepted : (l : PreferenceList) (log : List ℤ) (marks work w : ℕ) → windowNumber l log marks work w ≡ 0 → Accepted l log marks work w
+pub accepted : (l : PreferenceList) (log : Log) (marks work w : ℕ) → windowNumber l log marks work w ≡ 0 → Accepted l log marks work w
 unfolding windowNumber checkedNumber sizesNumber
 accepted l log marks work w e =
     let a = then-none (listNumber l) _ e in
-    let b = then-none (logNumber log) _ (a .1) in
-    let s = then-none (sizesNumber log marks work w) (rowsNumber l log) (b .1) in
-    let m = then-none (marksNumber log marks) _ (s .0) in
-    let n = then-none (eqb w 0 || ltb 1024 w gives 10) (ltb work (2 * (rowCount log + w)) gives 10) (m .1) in
+    let b = then-none (logNumber (log .values)) _ (a .1) in
+    let s = then-none (sizesNumber log marks work w) (rowsNumber l (log .values)) (b .1) in
+    let m = then-none (marksNumber (log .values) marks) _ (s .0) in
+    let n = then-none (eqb w 0 || ltb 1024 w gives 10) (ltb work (2 * (rowCount (log .values) + w)) gives 10) (m .1) in
     let v = neither (eqb w 0) (ltb 1024 w) (gives-none (eqb w 0 || ltb 1024 w) 9 (n .0)) in
     let z = eqb-false w 0 (v .0) in
     record {
       list = a .0;
       values = s .1;
-      few = runs.accepted log (b .0) .few;
-      marked = ltb-false marks (rowCount log) (gives-none (ltb marks (rowCount log)) 9 (m .0));
+      few = runs.accepted (log .values) (b .0) .few;
+      marked = ltb-false marks (rowCount (log .values)) (gives-none (ltb marks (rowCount (log .values))) 9 (m .0));
       some = omega arith;
       narrow = ltb-false 1024 w (v .1);
-      room = ltb-false work (2 * (rowCount log + w)) (gives-none (ltb work (2 * (rowCount log + w))) 9 (n .1));
+      room = ltb-false work (2 * (rowCount (log .values) + w)) (gives-none (ltb work (2 * (rowCount (log .values) + w))) 9 (n .1));
     }

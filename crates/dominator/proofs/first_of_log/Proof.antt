@@ -5,6 +5,7 @@ use native.Mathlib.Omega.{arith}
 use lib.ListN.{length, take, drop, replicate, length-replicate}
 use lib.Seq.{length-take-le}
 use borrow.Author.Needs.{needs}
+use Rattle.runs.specs.Log.{logOf}
 use Rattle.pareto.specs.Best.{competing}
 use Rattle.level_table.specs.Table.{tableOf}
 use Rattle.pareto.specs.Laws.Competing.{competing-few, competing-front}
@@ -46,11 +47,11 @@ module _ (d : tie.After-competing-rows) where
 
   rows-long : d .competing-rows .result ≤ length rows
   rows-long =
-      omega (arith, start .pre .few, d .competing-rows .ensures .0, competing-few (start .args .log .now), d .competing-rows .kept .1 .0, length-replicate {A = ℕ} 1024 0)
+      omega (arith, start .pre .few, d .competing-rows .ensures .0, competing-few (logOf (start .args .log .now)), d .competing-rows .kept .1 .0, length-replicate {A = ℕ} 1024 0)
 
-  rows-are : take (d .competing-rows .result) rows ≡ competing (start .args .log .now)
+  rows-are : take (d .competing-rows .result) rows ≡ competing (logOf (start .args .log .now))
   rows-are =
-      competing-front (start .args .log .now) _ rows (d .competing-rows .result)
+      competing-front (logOf (start .args .log .now)) _ rows (d .competing-rows .result)
       (omega (arith, start .pre .few, length-replicate {A = ℕ} 1024 0)) (d .competing-rows .ensures .0) (d .competing-rows .ensures .1)
 
 table-length-requires : tie.Need-table-length-requires
@@ -90,7 +91,7 @@ returns : tie.Need-returns
 returns c =
     let d = c .before .before .before .before in
     let s = start d in
-    c .first-dominator .ensures ∙ rw (table-is d, rows-are d) (first-in-table (s .args .list) (s .args .log .now) (s .args .row) (s .pre))
+    c .first-dominator .ensures ∙ rw (table-is d, rows-are d) (first-in-table (s .args .list) (logOf (s .args .log .now)) (s .args .row) (s .pre))
 
 pub first-of-log-spec : {M : Type 1} → statement M
 first-of-log-spec =

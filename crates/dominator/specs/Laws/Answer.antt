@@ -3,16 +3,14 @@ use mathlib.Core.Path.{_≡_, refl, sym, _∙_}
 use Prim.Native.Nat.{ℕ, _<_, _≤_}
 use native.Mathlib.Omega.{arith}
 use mathlib.Core.Bool.{Bool, true, false, _&&_}
-use mathlib.Core.List.{List}
 use lib.Dec.{leb}
-use lib.IntN.{ℤ}
 use borrow.Author.Tests.{le-leb, lt-leb}
 use Rattle.laws.specs.Checks.{_gives_, _then_}
 use Rattle.laws.specs.Laws.AnyOf.{passing-any}
 use Rattle.laws.specs.Laws.Bools.{both, false-true}
 use Rattle.laws.specs.Laws.Checks.{gives-yes, gives-no, then-first, then-next, then-none}
 use Rattle.laws.specs.Laws.First.{first-is}
-use Rattle.runs.specs.Log.{rowCount, logNumber}
+use Rattle.runs.specs.Log.{Log, rowCount, logNumber}
 use Rattle.runs.specs.Laws.Log as runs
 use Rattle.preference.specs.Valid.{listNumber}
 use Rattle.preference.specs.declared.PreferenceList.{PreferenceList}
@@ -24,31 +22,31 @@ use Rattle.dominator.specs.First.{bestDominates, firstDominator, Accepte
 use Rattle.dominator.specs.Engine.{dominatorNumber, Answered}
 use Rattle.dominator.specs.declared.DominatorAnswer.the-variants.{Row, Refused}
 
-module _ (l : PreferenceList) (log : List ℤ) (row k : ℕ) (e : k ≡ checkedNumber l log 0) where
+module _ (l : PreferenceList) (log : Log) (row k : ℕ) (e : k ≡ checkedNumber l log 0) where
   pub refused : (k ≡ 0 → ⊥) → Answered l log row (Refused k)
   unfolding dominatorNumber Answered
   refused h = record { number = e ∙ sym (then-first (checkedNumber l log 0) _ (λ z. h (e ∙ z))); some = h }
 
-  pub no-row : k ≡ 0 → rowCount log ≤ row → Answered l log row (Refused 12)
+  pub no-row : k ≡ 0 → rowCount (log .values) ≤ row → Answered l log row (Refused 12)
   unfolding dominatorNumber Answered _gives_
   no-row z h = record {
-    number = sym (then-next (checkedNumber l log 0) _ (sym e ∙ z) ∙ rw (le-leb (rowCount log) row h) (then-first 12 (isBest l log row gives 13) (λ y. omega arith)));
+    number = sym (then-next (checkedNumber l log 0) _ (sym e ∙ z) ∙ rw (le-leb (rowCount (log .values)) row h) (then-first 12 (isBest l log row gives 13) (λ y. omega arith)));
     some = λ y. omega arith;
   }
 
-  pub accepted : k ≡ 0 → row < rowCount log → Accepted l log row
+  pub accepted : k ≡ 0 → row < rowCount (log .values) → Accepted l log row
   unfolding checkedNumber _then_
   accepted z h =
       let a = then-none (listNumber l) _ (sym e ∙ z) in
-      let b = then-none (logNumber log) _ (a .1) in
-      record { list = a .0; values = b .1; few = runs.accepted log (b .0) .few; is-row = h }
+      let b = then-none (logNumber (log .values)) _ (a .1) in
+      record { list = a .0; values = b .1; few = runs.accepted (log .values) (b .0) .few; is-row = h }
 
-  number-is : k ≡ 0 → row < rowCount log → dominatorNumber l log row ≡ isBest l log row gives 13
+  number-is : k ≡ 0 → row < rowCount (log .values) → dominatorNumber l log row ≡ isBest l log row gives 13
   unfolding dominatorNumber
-  number-is z h = then-next (checkedNumber l log 0) _ (sym e ∙ z) ∙ then-next (leb (rowCount log) row gives 12) _ (gives-no (leb (rowCount log) row) 12 (lt-leb (rowCount log) row h))
+  number-is z h = then-next (checkedNumber l log 0) _ (sym e ∙ z) ∙ then-next (leb (rowCount (log .values)) row gives 12) _ (gives-no (leb (rowCount (log .values)) row) 12 (lt-leb (rowCount (log .values)) row h))
 
   -- no best row dominates it, so it is best itself: a row that is not is dominated by a best one
-  pub shortlisted : k ≡ 0 → row < rowCount log → (s : ℕ) → s ≡ firstDominator l log row → rowCount log ≤ s → Answered l log row (Refused 13)
+  pub shortlisted : k ≡ 0 → row < rowCount (log .values) → (s : ℕ) → s ≡ firstDominator l log row → rowCount (log .values) ≤ s → Answered l log row (Refused 13)
   unfolding Answered firstDominator
   shortlisted z h s f n = record {
     number = sym (number-is z h ∙ gives-yes (isBest l log row) 13 (itself (isBest l log row) refl));
@@ -60,22 +58,22 @@ module _ (l : PreferenceList) (log : List ℤ) (row k : ℕ) (e : k ≡ checkedN
       itself false e =
           let b = dominated-by-best l log row (every-competes log row) e in
           let d : bestDominates l log row (b .best) ≡ true = rw (b .is-best, b .beats) in
-          false-true (sym (first-is (bestDominates l log row) (rowCount log) .before (b .best) (omega (arith, b .row))) ∙ d)
+          false-true (sym (first-is (bestDominates l log row) (rowCount (log .values)) .before (b .best) (omega (arith, b .row))) ∙ d)
 
-  row-beaten : (best : ℕ) → best < rowCount log → isBest l log best ≡ true → rowDominates l log best row ≡ true → isBest l log row ≡ false
+  row-beaten : (best : ℕ) → best < rowCount (log .values) → isBest l log best ≡ true → rowDominates l log best row ≡ true → isBest l log row ≡ false
   unfolding isBest competing
   row-beaten best h b d =
       let c = both (competes log best) _ b .0 in
-      rw (passing-any (λ s. rowDominates l log s row) (competes log) (rowCount log) best h c d) (and-false (competes log row))
+      rw (passing-any (λ s. rowDominates l log s row) (competes log) (rowCount (log .values)) best h c d) (and-false (competes log row))
     where
       and-false : (t : Bool) → t && false ≡ false
       and-false true = refl
       and-false false = refl
 
-  pub beaten : k ≡ 0 → row < rowCount log → (s : ℕ) → s ≡ firstDominator l log row → s < rowCount log → Answered l log row (Row s)
+  pub beaten : k ≡ 0 → row < rowCount (log .values) → (s : ℕ) → s ≡ firstDominator l log row → s < rowCount (log .values) → Answered l log row (Row s)
   unfolding Answered firstDominator
   beaten z h s f n =
-      let d = both (isBest l log s) (rowDominates l log s row) (rw f (first-is (bestDominates l log row) (rowCount log) .there (rw f at n))) in
+      let d = both (isBest l log s) (rowDominates l log s row) (rw f (first-is (bestDominates l log row) (rowCount (log .values)) .there (rw f at n))) in
       record {
         accepted = number-is z h ∙ gives-no (isBest l log row) 13 (row-beaten s n (d .0) (d .1));
         is-row = n;

@@ -6,7 +6,6 @@ use native.Mathlib.Omega.{arith}
 use mathlib.Core.Bool.{Bool, true, false, not, _&&_, cond}
 use mathlib.Core.List.{List, [], _∷_, _++_}
 use lib.Dec.{ltb}
-use lib.IntN.{ℤ}
 use lib.ListN.{length, getD, drop, drop-of-length-le}
 use lib.Seq.{drop-cons}
 use borrow.Author.Tests.{lt-ltb, le-ltb, ltb-true, ltb-false}
@@ -15,7 +14,7 @@ use Rattle.laws.specs.Lists.{joined, passing, anyOf}
 use Rattle.laws.specs.Laws.AnyOf.{passing-found, passing-any}
 use Rattle.laws.specs.Laws.Bools.{both-ways}
 use Rattle.laws.specs.Laws.First.{first-is, first-cong}
-use Rattle.runs.specs.Log.{rowCount}
+use Rattle.runs.specs.Log.{Log, rowCount}
 use Rattle.preference.specs.declared.PreferenceList.{PreferenceList}
 use Rattle.pareto.specs.Best.{competes, competing, rowDominates, isBest}
 use Rattle.level_table.specs.Table.{tableOf}
@@ -95,8 +94,8 @@ module _ (p c : ℕ → Bool) where
       (λ e. let f = passing-found p c n e in passing-any q c n (f .at) (f .below) (f .passes) (sym (h (f .at) (f .below)) ∙ f .holds))
       (λ e. let f = passing-found q c n e in passing-any p c n (f .at) (f .below) (f .passes) (h (f .at) (f .below) ∙ f .holds))
 
-module _ (l : PreferenceList) (log : List ℤ) (row : ℕ) (a : Accepted l log row) where
-  table-beats : (s r : ℕ) → s < rowCount log → r < rowCount log → beats (tableOf l log) s r ≡ rowDominates l log s r
+module _ (l : PreferenceList) (log : Log) (row : ℕ) (a : Accepted l log row) where
+  table-beats : (s r : ℕ) → s < rowCount (log .values) → r < rowCount (log .values) → beats (tableOf l (log .values)) s r ≡ rowDominates l log s r
   table-beats = compared-dominates l log (a .list) (a .values)
 
   regroup : (c b d : Bool) → (c && (b && d)) ≡ ((c && d) && b)
@@ -109,17 +108,17 @@ module _ (l : PreferenceList) (log : List ℤ) (row : ℕ) (a : Accepted l log r
   regroup true false false = refl
   regroup false b d = refl
 
-  best-beats : (s : ℕ) → s < rowCount log → (competes log s && bestBeats (tableOf l log) (competing log) row s) ≡ bestDominates l log row s
+  best-beats : (s : ℕ) → s < rowCount (log .values) → (competes log s && bestBeats (tableOf l (log .values)) (competing log) row s) ≡ bestDominates l log row s
   unfolding bestBeats isBest competing
   best-beats s h =
       rw (
         table-beats s row h (a .is-row),
-        any-agree (λ q. beats (tableOf l log) q s) (competes log) (λ q. rowDominates l log q s) (rowCount log) (λ q b. table-beats q s b h),
+        any-agree (λ q. beats (tableOf l (log .values)) q s) (competes log) (λ q. rowDominates l log q s) (rowCount (log .values)) (λ q b. table-beats q s b h),
       )
       (regroup (competes log s) (rowDominates l log s row) (not (anyOf (λ q. rowDominates l log q s) (competing log))))
 
-  pub first-in-table : firstOf (bestBeats (tableOf l log) (competing log) row) (competing log) (rowCount log) ≡ firstDominator l log row
+  pub first-in-table : firstOf (bestBeats (tableOf l (log .values)) (competing log) row) (competing log) (rowCount (log .values)) ≡ firstDominator l log row
   unfolding firstDominator competing
   first-in-table =
-      first-counted (bestBeats (tableOf l log) (competing log) row) (competes log) (rowCount log)
-      ∙ first-cong _ (bestDominates l log row) (rowCount log) best-beats
+      first-counted (bestBeats (tableOf l (log .values)) (competing log) row) (competes log) (rowCount (log .values))
+      ∙ first-cong _ (bestDominates l log row) (rowCount (log .values)) best-beats

@@ -1,9 +1,8 @@
 -- The lattice that the engine walks has all parts of the level vectors. What goes by that cites one of the first three laws.
 use mathlib.Core.Path.{_≡_, refl}
 use Prim.Native.Nat.{ℕ, _≤_}
-use mathlib.Core.List.{List}
-use lib.IntN.{ℤ}
 use lib.ListN.{length}
+use Rattle.runs.specs.Log.{Log}
 use Rattle.preference.specs.Parts.{maxLevels}
 use Rattle.preference.specs.Laws.Parts.{parts-few}
 use Rattle.preference.specs.declared.PreferenceList.{PreferenceList}
@@ -14,7 +13,7 @@ pub tops-are : (l : PreferenceList) → latticeTops l ≡ maxLevels l
 unfolding latticeTops
 tops-are l = refl
 
-module _ (l : PreferenceList) (log : List ℤ) where
+module _ (l : PreferenceList) (log : Log) where
   pub row-is : (r : ℕ) → latticeRow l log r ≡ vectorAt l log r
   unfolding latticeRow
   row-is r = refl

@@ -6,13 +6,14 @@ use mathlib.Core.Logic.{⊎-elim}
 use lib.ListN.{length}
 use lib.Seq.{length-sets}
 use Rattle.laws.specs.Lists.{passing}
+use Rattle.runs.specs.Log.{logOf}
 use Rattle.pareto.specs.Best.{competes, competing}
 use Rattle.pareto.specs.Laws.Competing.{Listed, listed-none, listed-one, listed-other}
 use Rattle.pareto.proofs.competing_rows.Statement.{statement}
 use Rattle.pareto.proofs.competing_rows.Tie as tie
 
 abbrev Inv-loop : tie.InvT-loop
-Inv-loop log rows₀ count n₀ r₀ rows n r = (r ≤ count) × Listed (competes log) rows₀ r n rows
+Inv-loop log rows₀ count n₀ r₀ rows n r = (r ≤ count) × Listed (competes (logOf log)) rows₀ r n rows
 
 abbrev μ-loop : tie.MeasureT-loop
 μ-loop log rows₀ count n₀ r₀ rows n r = count - r
@@ -21,7 +22,7 @@ row-count-requires : tie.Need-row-count-requires Inv-loop μ-loop
 row-count-requires c κs = search needs
 
 loop-holds : tie.Need-loop-holds Inv-loop μ-loop
-loop-holds c = (search needs, listed-none (competes (c .before .before .args .log .now)) (c .before .before .args .rows .now))
+loop-holds c = (search needs, listed-none (competes (logOf (c .before .before .args .log .now))) (c .before .before .args .rows .now))
 
 row-competes-requires : tie.Need-row-competes-requires Inv-loop μ-loop
 row-competes-requires c κs = search needs
@@ -45,13 +46,13 @@ loop-again c =
     let e = sym (c .before .row-competes .ensures) in (
       omega arith,
       ⊎-elim
-          (λ w. rw (w .5 ∙ w .2 .ensures, w .6) (listed-one (competes (a .log .now)) (a .rows .now) (l .r) (l .n) (l .rows) (l .inv .1) (e ∙ w .0 .taken)))
-          (λ w. rw (w .1, w .2) (listed-other (competes (a .log .now)) (a .rows .now) (l .r) (l .n) (l .rows) (l .inv .1) (e ∙ w .0 .left)))
+          (λ w. rw (w .5 ∙ w .2 .ensures, w .6) (listed-one (competes (logOf (a .log .now))) (a .rows .now) (l .r) (l .n) (l .rows) (l .inv .1) (e ∙ w .0 .taken)))
+          (λ w. rw (w .1, w .2) (listed-other (competes (logOf (a .log .now))) (a .rows .now) (l .r) (l .n) (l .rows) (l .inv .1) (e ∙ w .0 .left)))
           (c .if1 .came),
     )
 
 same-length : tie.Need-same-length Inv-loop μ-loop
-same-length c = let l = c .before .loop in ap length (l .inv .1 .stored) ∙ length-sets (c .before .before .before .before .args .rows .now) 0 (passing (competes (c .before .before .before .before .args .log .now)) (l .r))
+same-length c = let l = c .before .loop in ap length (l .inv .1 .stored) ∙ length-sets (c .before .before .before .before .args .rows .now) 0 (passing (competes (logOf (c .before .before .before .before .args .log .now))) (l .r))
 
 returns : tie.Need-returns Inv-loop μ-loop
 unfolding competing

@@ -3,24 +3,22 @@ use mathlib.Core.Path.{_≡_, refl, sym, _∙_}
 use Prim.Native.Nat.{ℕ, zero, suc, _<_, _≤_}
 use native.Mathlib.Omega.{arith}
 use mathlib.Core.Bool.{Bool, true, false, not, _&&_}
-use mathlib.Core.List.{List}
-use lib.IntN.{ℤ}
 use lib.ListN.{length}
 use borrow.Author.Tests.{not-true}
 use Rattle.laws.specs.Lists.{anyOf}
 use Rattle.laws.specs.Laws.AnyOf.{Found, passing-found, passing-any}
 use Rattle.laws.specs.Laws.Bools.{both, false-true}
-use Rattle.runs.specs.Log.{rowCount, rowAt}
+use Rattle.runs.specs.Log.{Log, rowCount, rowAt}
 use Rattle.preference.specs.Laws.Parts.{levels-length}
 use Rattle.preference.specs.declared.PreferenceList.{PreferenceList}
 use Rattle.pareto.specs.Best.{competes, competing, vectorAt, rowDominates, isBest}
 use Rattle.pareto.specs.Laws.Dominance.{Pareto, dominates-pareto, pareto-dominates, dominates-transitive, levelSum, dominates-sum}
 
-module _ (l : PreferenceList) (log : List ℤ) where
+module _ (l : PreferenceList) (log : Log) where
   -- all level vectors of a list have one length, so that rows need no condition
   same-length : (s r : ℕ) → length (vectorAt l log s) ≡ length (vectorAt l log r)
   unfolding vectorAt
-  same-length s r = levels-length l (rowAt log s) ∙ sym (levels-length l (rowAt log r))
+  same-length s r = levels-length l (rowAt (log .values) s) ∙ sym (levels-length l (rowAt (log .values) r))
 
   pub row-transitive : (q s r : ℕ) → rowDominates l log q s ≡ true → rowDominates l log s r ≡ true → rowDominates l log q r ≡ true
   unfolding rowDominates
@@ -32,21 +30,21 @@ module _ (l : PreferenceList) (log : List ℤ) where
 
   -- a competing row that dominates row r
   abbrev Dominator : ℕ → Type 0
-  Dominator r = Found (λ s. rowDominates l log s r) (competes log) (rowCount log)
+  Dominator r = Found (λ s. rowDominates l log s r) (competes log) (rowCount (log .values))
 
   dominator : (r : ℕ) → anyOf (λ s. rowDominates l log s r) (competing log) ≡ true → Dominator r
   unfolding competing
-  dominator r = passing-found (λ s. rowDominates l log s r) (competes log) (rowCount log)
+  dominator r = passing-found (λ s. rowDominates l log s r) (competes log) (rowCount (log .values))
 
-  dominated : (r s : ℕ) → s < rowCount log → competes log s ≡ true → rowDominates l log s r ≡ true → anyOf (λ q. rowDominates l log q r) (competing log) ≡ true
+  dominated : (r s : ℕ) → s < rowCount (log .values) → competes log s ≡ true → rowDominates l log s r ≡ true → anyOf (λ q. rowDominates l log q r) (competing log) ≡ true
   unfolding competing
-  dominated r s = passing-any (λ q. rowDominates l log q r) (competes log) (rowCount log) s
+  dominated r s = passing-any (λ q. rowDominates l log q r) (competes log) (rowCount (log .values)) s
 
   -- ---- 000, Def. 19
 
   pub record BestMatch (r : ℕ) : Type 0 where
     pub takes-part : competes log r ≡ true
-    pub undominated : (s : ℕ) → s < rowCount log → competes log s ≡ true → Pareto (vectorAt l log s) (vectorAt l log r) → ⊥
+    pub undominated : (s : ℕ) → s < rowCount (log .values) → competes log s ≡ true → Pareto (vectorAt l log s) (vectorAt l log r) → ⊥
 
   pub best-match : (r : ℕ) → isBest l log r ≡ true → BestMatch r
   unfolding isBest
@@ -73,7 +71,7 @@ module _ (l : PreferenceList) (log : List ℤ) where
 
   pub record BestDominator (r : ℕ) : Type 0 where
     pub best : ℕ
-    pub row : best < rowCount log
+    pub row : best < rowCount (log .values)
     pub is-best : isBest l log best ≡ true
     pub beats : rowDominates l log best r ≡ true
 

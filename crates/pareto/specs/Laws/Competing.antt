@@ -7,21 +7,20 @@ use native.Mathlib.Omega.{arith}
 use mathlib.Core.Bool.{Bool, true, false, cond}
 use mathlib.Core.List.{List, [], _∷_, _++_, append-nil, List·Memᴰ, List·Memᴰ·head, List·Memᴰ·tail, List·Memᴰ·not-nil, List·Memᴰ·append-cases, List·Memᴰ·eq-of-singleton}
 use mathlib.Core.Logic.{⊎-elim}
-use lib.IntN.{ℤ}
 use lib.ListN.{length, getD, set, take, length-append}
 use lib.Seq.{sets}
 use Rattle.laws.specs.Lists.{joined, passing}
 use Rattle.laws.specs.Laws.Stores.{sets-append, stored-front}
-use Rattle.runs.specs.Log.{rowCount, rowAt}
+use Rattle.runs.specs.Log.{Log, rowCount, rowAt}
 use Rattle.pareto.specs.Best.{competes, competing}
 
 -- whether a row competes is told by the row
-pub competes-same : (log log′ : List ℤ) (r p : ℕ) → rowAt log′ p ≡ rowAt log r → competes log′ p ≡ competes log r
+pub competes-same : (log log′ : Log) (r p : ℕ) → rowAt (log′ .values) p ≡ rowAt (log .values) r → competes log′ p ≡ competes log r
 unfolding competes
 competes-same log log′ r p e = refl
 
 -- document 01: "Every run competes."
-pub every-competes : (log : List ℤ) (r : ℕ) → competes log r ≡ true
+pub every-competes : (log : Log) (r : ℕ) → competes log r ≡ true
 unfolding competes
 every-competes log r = refl
 
@@ -50,24 +49,24 @@ module _ (c : ℕ → Bool) where
       (λ (m : List·Memᴰ r (cond (c n) (n ∷ []) [])). one-below (c n) n r m)
       (List·Memᴰ·append-cases (passing c n) k)
 
-pub competing-few : (log : List ℤ) → length (competing log) ≤ rowCount log
+pub competing-few : (log : Log) → length (competing log) ≤ rowCount (log .values)
 unfolding competing
-competing-few log = passing-few (competes log) (rowCount log)
+competing-few log = passing-few (competes log) (rowCount (log .values))
 
-pub competing-below : (log : List ℤ) (r : ℕ) → List·Memᴰ r (competing log) → r < rowCount log
+pub competing-below : (log : Log) (r : ℕ) → List·Memᴰ r (competing log) → r < rowCount (log .values)
 unfolding competing
-competing-below log = passing-below (competes log) (rowCount log)
+competing-below log = passing-below (competes log) (rowCount (log .values))
 
 at-place : (xs : List ℕ) (i : ℕ) → i < length xs → List·Memᴰ (getD xs i 0) xs
 at-place [] i h = absurd (not-suc-le-zero h)
 at-place (x ∷ xs) zero h = List·Memᴰ·head refl
 at-place (x ∷ xs) (suc i) h = List·Memᴰ·tail (at-place xs i (le-of-suc-le-suc h))
 
-pub competing-at : (log : List ℤ) (i : ℕ) → i < length (competing log) → getD (competing log) i 0 < rowCount log
+pub competing-at : (log : Log) (i : ℕ) → i < length (competing log) → getD (competing log) i 0 < rowCount (log .values)
 competing-at log i h = competing-below log (getD (competing log) i 0) (at-place (competing log) i h)
 
 -- they stand at the front of a list that they were stored in
-pub competing-front : (log : List ℤ) (lent rows : List ℕ) (n : ℕ) → rowCount log ≤ length lent → n ≡ length (competing log) → rows ≡ sets lent 0 (competing log) → take n rows ≡ competing log
+pub competing-front : (log : Log) (lent rows : List ℕ) (n : ℕ) → rowCount (log .values) ≤ length lent → n ≡ length (competing log) → rows ≡ sets lent 0 (competing log) → take n rows ≡ competing log
 competing-front log lent rows n h e f = rw (e, f) (stored-front lent (competing log) (omega (arith, competing-few log)))
 
 -- ---- the list as it is written, row by row

@@ -5,28 +5,27 @@ use native.Mathlib.Omega.{arith}
 use mathlib.Core.Bool.{Bool, true, false, cond}
 use mathlib.Core.List.{List, [], _∷_}
 use lib.Dec.{eqb}
-use lib.IntN.{ℤ}
 use lib.ListN.{getD, drop, List·getD-append}
 use Rattle.laws.specs.Laws.Joined.{joined-cong, singles-at, singles-length}
-use Rattle.runs.specs.Log.{rowCount}
+use Rattle.runs.specs.Log.{Log, rowCount}
 use Rattle.preference.specs.declared.PreferenceList.{PreferenceList}
 use Rattle.pareto.specs.Best.{isBest, bestMatches, markAt, marksOf, marksAfter, markedRows}
 
-module _ (l : PreferenceList) (log : List ℤ) where
+module _ (l : PreferenceList) (log : Log) where
   -- a row's byte is its mark
-  pub mark-there : (bytes : List ℕ) (r : ℕ) → r < rowCount log → getD (marksAfter l log bytes) r 0 ≡ markAt l log r
+  pub mark-there : (bytes : List ℕ) (r : ℕ) → r < rowCount (log .values) → getD (marksAfter l log bytes) r 0 ≡ markAt l log r
   unfolding marksAfter marksOf
   mark-there bytes r b =
-      List·getD-append (marksOf l log) (drop (rowCount log) bytes) 0 r (omega (arith, singles-length (markAt l log) (rowCount log)))
-      ∙ singles-at (markAt l log) (rowCount log) r b
+      List·getD-append (marksOf l log) (drop (rowCount (log .values)) bytes) 0 r (omega (arith, singles-length (markAt l log) (rowCount (log .values))))
+      ∙ singles-at (markAt l log) (rowCount (log .values)) r b
 
   one-best : (t : Bool) → eqb (cond t 1 0) 1 ≡ t
   one-best true = refl
   one-best false = refl
 
   -- the marked rows are the shortlist
-  pub marked-best : (bytes : List ℕ) → markedRows (marksAfter l log bytes) (rowCount log) ≡ bestMatches l log
+  pub marked-best : (bytes : List ℕ) → markedRows (marksAfter l log bytes) (rowCount (log .values)) ≡ bestMatches l log
   unfolding markedRows bestMatches
   marked-best bytes =
-      joined-cong (λ r. cond (eqb (getD (marksAfter l log bytes) r 0) 1) (r ∷ []) []) (λ r. cond (isBest l log r) (r ∷ []) []) (rowCount log)
+      joined-cong (λ r. cond (eqb (getD (marksAfter l log bytes) r 0) 1) (r ∷ []) []) (λ r. cond (isBest l log r) (r ∷ []) []) (rowCount (log .values))
       (λ r b. ap (λ (t : Bool). cond t (r ∷ []) []) (ap (λ (k : ℕ). eqb k 1) (mark-there bytes r b) ∙ one-best (isBest l log r)))

@@ -7,7 +7,7 @@ use lib.IntN.{ℤ}
 use borrow.Author.Needs.{needs}
 use Rattle.laws.specs.Checks.{_gives_, _then_}
 use Rattle.laws.specs.First.{firstAt, anyBelow, firstNumber, isNumber}
-use Rattle.runs.specs.Log.{logNumber}
+use Rattle.runs.specs.Log.{Log, logNumber}
 use Rattle.constructor.specs.Level.{layeringOf}
 use Rattle.constructor.specs.Valid.{constructorNumber, layerNumber, numberUnder}
 use Rattle.constructor.specs.declared.Constructor.{Constructor}
@@ -72,6 +72,6 @@ row-most : (l : PreferenceList) (row : List ℤ) → rowNumber l row ≤ 10
 unfolding rowNumber
 row-most l row = search (needs, first-most, value-most)
 
-pub checked-most : (l : PreferenceList) (log : List ℤ) (more : ℕ) → more ≤ 10 → checkedNumber l log more ≤ 10
+pub checked-most : (l : PreferenceList) (log : Log) (more : ℕ) → more ≤ 10 → checkedNumber l log more ≤ 10
 unfolding checkedNumber logNumber rowsNumber
 checked-most l log more h = search (needs, gives-most, then-most, first-most, list-most, row-most)

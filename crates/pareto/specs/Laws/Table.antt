@@ -12,9 +12,9 @@ use borrow.Author.Tests.{ltb-true, lt-ltb, le-ltb, leb-true, leb-false}
 use Rattle.laws.specs.First.{anyBelow}
 use Rattle.laws.specs.Laws.Bools.{both-ways}
 use Rattle.laws.specs.Laws.First.{any-found, any-at, any-cong, number-zero}
-use Rattle.runs.specs.Log.{rowCount, rowAt}
+use Rattle.runs.specs.Log.{Log, rowCount, rowAt}
 use Rattle.preference.specs.Valid.{listNumber}
-use Rattle.preference.specs.Parts.{rowNumber}
+use Rattle.preference.specs.Parts.{levels, rowNumber}
 use Rattle.preference.specs.Laws.Parts.{levels-length, parts-few}
 use Rattle.preference.specs.declared.PreferenceList.{PreferenceList}
 use Rattle.level_table.specs.Table.{tableOf}
@@ -55,34 +55,42 @@ some-of-eight v w l h =
 -- ---- the table
 
 module _ (l : PreferenceList) (log : List ℤ) (e : listNumber l ≡ 0) (f : rowsNumber l log ≡ 0) where
-  pub table-at : (a k : ℕ) → a < rowCount log → k < 8 → getD (tableOf l log) (8 * a + k) 0 ≡ getD (vectorAt l log a) k 0
-  unfolding vectorAt rowsNumber
+  pub table-at : (a k : ℕ) → a < rowCount log → k < 8 → getD (tableOf l log) (8 * a + k) 0 ≡ getD (levels l (rowAt log a)) k 0
+  unfolding rowsNumber
   table-at a k h j = table-levels l log e a (number-zero (λ r. rowNumber l (rowAt log r)) (rowCount log) f a h) k h j
 
   rows-tabled : length (tableOf l log) / 8 ≡ rowCount log
   rows-tabled = omega (arith, table-long l log, table-rows l log)
 
-  lower-some : (a b : ℕ) → a < rowCount log → b < rowCount log → anyBelow (lower (tableOf l log) (8 * a) (8 * b)) 8 ≡ someBelow (vectorAt l log a) (vectorAt l log b)
-  unfolding vectorAt
+  lower-some : (a b : ℕ) → a < rowCount log → b < rowCount log → anyBelow (lower (tableOf l log) (8 * a) (8 * b)) 8 ≡ someBelow (levels l (rowAt log a)) (levels l (rowAt log b))
   lower-some a b h j =
-      any-cong (lower (tableOf l log) (8 * a) (8 * b)) (λ k. ltb (getD (vectorAt l log a) k 0) (getD (vectorAt l log b) k 0)) 8
+      any-cong (lower (tableOf l log) (8 * a) (8 * b)) (λ k. ltb (getD (levels l (rowAt log a)) k 0) (getD (levels l (rowAt log b)) k 0)) 8
       (λ k q. rw (table-at a k h q, table-at b k j q))
-      ∙ some-of-eight (vectorAt l log a) (vectorAt l log b) (levels-length l (rowAt log a) ∙ sym (levels-length l (rowAt log b)))
+      ∙ some-of-eight (levels l (rowAt log a)) (levels l (rowAt log b)) (levels-length l (rowAt log a) ∙ sym (levels-length l (rowAt log b)))
       (omega (arith, levels-length l (rowAt log b), parts-few l))
 
-  -- the first dominates exactly where row a dominates row b
-  pub compared-dominates : (a b : ℕ) → a < rowCount log → b < rowCount log
-      → eqb (compared (tableOf l log) a b) firstDominates ≡ rowDominates l log a b
-  unfolding compared hasLower rowDominates dominates vectorAt
-  compared-dominates a b h j =
-      let va = vectorAt l log a in
-      let vb = vectorAt l log b in
-      let n = levels-length l (rowAt log a) ∙ sym (levels-length l (rowAt log b)) in
-      rw (rows-tabled, lt-ltb a (rowCount log) h, lt-ltb b (rowCount log) j, lower-some a b h j, lower-some b a j h, none-not va vb n)
-      (cases (someBelow va vb) (someBelow vb va))
-    where
-      cases : (s t : Bool) → eqb (relation s t) firstDominates ≡ (not t && s)
-      cases true true = refl
-      cases true false = refl
-      cases false true = refl
-      cases false false = refl
+-- the first dominates exactly where row a dominates row b
+pub compared-dominates : (l : PreferenceList) (log : Log) → listNumber l ≡ 0 → rowsNumber l (log .values) ≡ 0
+    → (a b : ℕ) → a < rowCount (log .values) → b < rowCount (log .values)
+    → eqb (compared (tableOf l (log .values)) a b) firstDominates ≡ rowDominates l log a b
+unfolding compared hasLower rowDominates dominates vectorAt
+compared-dominates l log e f a b h j =
+    let xs = log .values in
+    let va = vectorAt l log a in
+    let vb = vectorAt l log b in
+    let n = levels-length l (rowAt xs a) ∙ sym (levels-length l (rowAt xs b)) in
+    rw (
+      rows-tabled l xs e f,
+      lt-ltb a (rowCount xs) h,
+      lt-ltb b (rowCount xs) j,
+      lower-some l xs e f a b h j,
+      lower-some l xs e f b a j h,
+      none-not va vb n,
+    )
+    (cases (someBelow va vb) (someBelow vb va))
+  where
+    cases : (s t : Bool) → eqb (relation s t) firstDominates ≡ (not t && s)
+    cases true true = refl
+    cases true false = refl
+    cases false true = refl
+    cases false false = refl

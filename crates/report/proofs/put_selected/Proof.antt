@@ -14,6 +14,7 @@ use lib.IntN.{ℤ, pos}
 use Rattle.arith.specs.Gap.{gap}
 use Rattle.arith.specs.Laws.Local.{num}
 use Rattle.text.specs.Laws.Prints.{prints-then, prints-same}
+use Rattle.runs.specs.Log.{logOf}
 use Rattle.selection.specs.Selected.{eitherNumber}
 use Rattle.report.specs.Laws.Report.{told, selected-refuses, selected-lists}
 
@@ -38,11 +39,11 @@ returns c =
     let g = q .before .signed-gap in
     let by = q .before .before .before .by-either in
     let a = q .before .before .before .before .before .before .args in
-    let k = eitherNumber (a .list) (a .log .now) 1024 in
+    let k = eitherNumber (a .list) (logOf (a .log .now)) 1024 in
     let below = g .ensures .0 ∙ ap (gap (pos 0)) (num (by .result) (by .ok)) in
-    let e = selected-refuses (a .list) (a .log .now) k (by .result) (g .result) (by .ensures .result) below (q .if1 .taken) in (
+    let e = selected-refuses (a .list) (logOf (a .log .now)) k (by .result) (g .result) (by .ensures .result) below (q .if1 .taken) in (
       prints-same e (c .before .before .put-refused .ensures),
-      omega (arith, told (a .list) (a .log .now) k (by .result) (g .result) (by .ensures .result) below, g .ensures .1),
+      omega (arith, told (a .list) (logOf (a .log .now)) k (by .result) (g .result) (by .ensures .result) below, g .ensures .1),
     )
 
 signed-gap-requires-2 : tie.Need-signed-gap-requires-2
@@ -68,14 +69,14 @@ returns-2 c =
     let by = q .before .before .before .by-either in
     let a = q .before .before .before .before .before .before .args in
     let f = num (by .result) (by .ok) in
-    let k = eitherNumber (a .list) (a .log .now) 1024 in
+    let k = eitherNumber (a .list) (logOf (a .log .now)) 1024 in
     let below = g .ensures .0 ∙ ap (gap (pos 0)) f in
     let above = h .signed-gap2 .ensures .0 ∙ ap (λ (z : ℤ). gap z (pos 0)) f in (
       prints-same
-          (selected-lists (a .list) (a .log .now) k (by .result) (g .result) (by .ensures .result) below (h .signed-gap2 .result) _ _
+          (selected-lists (a .list) (logOf (a .log .now)) k (by .result) (g .result) (by .ensures .result) below (h .signed-gap2 .result) _ _
           (q .if1 .left) above (by .ensures .marks-are))
           (prints-then (c .before .before .before .before .before .before .before .put-head .ensures) (c .before .before .put-lines .ensures)),
-      omega (arith, told (a .list) (a .log .now) k (by .result) (g .result) (by .ensures .result) below, g .ensures .1),
+      omega (arith, told (a .list) (logOf (a .log .now)) k (by .result) (g .result) (by .ensures .result) below, g .ensures .1),
     )
 
 pub put-selected-spec : {M : Type 1} → statement M

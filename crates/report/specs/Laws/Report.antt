@@ -12,7 +12,7 @@ use Rattle.arith.specs.Gap.{clip, gap}
 use Rattle.laws.specs.Lists.{joined}
 use Rattle.laws.specs.Laws.Checks.{then-first, then-next, then-none}
 use Rattle.laws.specs.Laws.Joined.{joined-cong}
-use Rattle.runs.specs.Log.{rowCount}
+use Rattle.runs.specs.Log.{Log, logOf, rowCount}
 use Rattle.preference.specs.declared.PreferenceList.{PreferenceList}
 use Rattle.pareto.specs.Best.{isBest, bestMatches, marksAfter, marksLeft}
 use Rattle.pareto.specs.Laws.Marks.{mark-there, marked-best}
@@ -47,51 +47,51 @@ gap-best best = ap clip (+ℤ-idr (pos best))
 -- ---- a selection's text
 
 -- an accepted call has at most 1,024 rows, and no more shortlisted ones
-pub rows-most : (l : PreferenceList) (log : List ℤ) (marks : ℕ) → eitherNumber l log marks ≡ 0 → rowCount log ≤ 1024
+pub rows-most : (l : PreferenceList) (log : Log) (marks : ℕ) → eitherNumber l log marks ≡ 0 → rowCount (log .values) ≤ 1024
 unfolding eitherNumber latticeNumber windowNumber
 rows-most l log marks e = by-engine (eqb (latticeNumber l log marks 32768 262144) 9) e
   where
-    by-engine : (t : Bool) → cond t (windowNumber l log marks 4096 64) (latticeNumber l log marks 32768 262144) ≡ 0 → rowCount log ≤ 1024
+    by-engine : (t : Bool) → cond t (windowNumber l log marks 4096 64) (latticeNumber l log marks 32768 262144) ≡ 0 → rowCount (log .values) ≤ 1024
     by-engine true z = rows-few l log (sizesNumber log marks 4096 64) z
-    by-engine false z = rows-few l log (marksNumber log marks) (then-none (checkedNumber l log (marksNumber log marks)) _ z .0)
+    by-engine false z = rows-few l log (marksNumber (log .values) marks) (then-none (checkedNumber l log (marksNumber (log .values) marks)) _ z .0)
 
-best-most : (l : PreferenceList) (log : List ℤ) → length (bestMatches l log) ≤ rowCount log
-best-most l log = rw (sym (marked-best l log [])) (count-few (marksAfter l log []) (rowCount log))
+best-most : (l : PreferenceList) (log : Log) → length (bestMatches l log) ≤ rowCount (log .values)
+best-most l log = rw (sym (marked-best l log [])) (count-few (marksAfter l log []) (rowCount (log .values)))
 
 -- the marked rows' lines are those of the shortlist
-marked-lines : (l : PreferenceList) (log : List ℤ) (bytes : List ℕ) → joined (markedText (marksAfter l log bytes) log) (rowCount log) ≡ linesText l log
+marked-lines : (l : PreferenceList) (log : Log) (bytes : List ℕ) → joined (markedText (marksAfter l log bytes) (log .values)) (rowCount (log .values)) ≡ linesText l log
 unfolding linesText markedText
 marked-lines l log bytes =
-    joined-cong (markedText (marksAfter l log bytes) log) (λ r. cond (isBest l log r) (lineText log r) []) (rowCount log)
-    (λ r b. ap (λ (k : ℕ). cond (eqb k 1) (lineText log r) []) (mark-there l log bytes r b) ∙ by-mark (isBest l log r) (lineText log r))
+    joined-cong (markedText (marksAfter l log bytes) (log .values)) (λ r. cond (isBest l log r) (lineText (log .values) r) []) (rowCount (log .values))
+    (λ r b. ap (λ (k : ℕ). cond (eqb k 1) (lineText (log .values) r) []) (mark-there l log bytes r b) ∙ by-mark (isBest l log r) (lineText (log .values) r))
   where
     by-mark : (t : Bool) (x : List ℕ) → cond (eqb (cond t 1 0) 1) x [] ≡ cond t x []
     by-mark true x = refl
     by-mark false x = refl
 
-module _ (l : PreferenceList) (log : List ℤ) (k : ℕ) where
+module _ (l : PreferenceList) (log : Log) (k : ℕ) where
   pub refused-text : (k ≡ 0 → ⊥) → refusedText k ≡ textOf k l log
   unfolding textOf
   refused-text h = rw (ne-eqb k 0 h)
 
   -- the text of an accepted call
   abbrev whole : List ℕ
-  whole = headText (rowCount log) (length (bestMatches l log)) ++ linesText l log
+  whole = headText (rowCount (log .values)) (length (bestMatches l log)) ++ linesText l log
 
   whole-text : k ≡ 0 → whole ≡ textOf k l log
   unfolding textOf
   whole-text h = rw (eq-eqb k 0 h)
 
   -- 20 bytes of head, and 29 for each of 1,024 rows
-  whole-short : Values log → rowCount log ≤ 1024 → length whole ≤ 29716
+  whole-short : Values (log .values) → rowCount (log .values) ≤ 1024 → length whole ≤ 29716
   unfolding linesText
   whole-short f h =
-      let n = rowCount log in
+      let n = rowCount (log .values) in
       let b = best-most l log in
       let best = length (bestMatches l log) in
-      omega (arith, length-append (headText n best) (linesText l log), head-short n best h (omega arith), lines-short log f (isBest l log) n h)
+      omega (arith, length-append (headText n best) (linesText l log), head-short n best h (omega arith), lines-short (log .values) f (isBest l log) n h)
 
-  text-short : k < 4294967296 → Values log → (k ≡ 0 → rowCount log ≤ 1024) → length (textOf k l log) ≤ 29716
+  text-short : k < 4294967296 → Values (log .values) → (k ≡ 0 → rowCount (log .values) ≤ 1024) → length (textOf k l log) ≤ 29716
   text-short h f few = by-number (eqb k 0) refl
     where
       by-number : (t : Bool) → eqb k 0 ≡ t → length (textOf k l log) ≤ 29716
@@ -107,16 +107,16 @@ module _ (l : PreferenceList) (log : List ℤ) (k : ℕ) where
     selected-refuses h = ap refusedText (sym told) ∙ refused-text (λ z. h (sym told ∙ z))
 
     pub selected-lists : (best : ℕ) (marks marks′ : List ℕ) → j ≡ 0 → best ≡ gap r (pos 0) → marks′ ≡ marksLeft k l log marks
-        → headText (rowCount log) best ++ joined (markedText marks′ log) (rowCount log) ≡ textOf k l log
+        → headText (rowCount (log .values)) best ++ joined (markedText marks′ (log .values)) (rowCount (log .values)) ≡ textOf k l log
     unfolding marksLeft
     selected-lists best marks marks′ z b m =
-        let n = rowCount log in
+        let n = rowCount (log .values) in
         let zeroed : k ≡ 0 = told ∙ z in
         let all = length (bestMatches l log) in
         let count : best ≡ all = b ∙ ap (λ (x : ℤ). gap x (pos 0)) (e ∙ ap (λ (i : ℕ). resultOf i all) zeroed) ∙ gap-best all in
         let after : marks′ ≡ marksAfter l log marks = m ∙ rw (eq-eqb k 0 zeroed) in
-        let lines : joined (markedText marks′ log) n ≡ linesText l log =
-        ap (λ (x : List ℕ). joined (markedText x log) n) after ∙ marked-lines l log marks in
+        let lines : joined (markedText marks′ (log .values)) n ≡ linesText l log =
+        ap (λ (x : List ℕ). joined (markedText x (log .values)) n) after ∙ marked-lines l log marks in
         rw (count, lines) (whole-text zeroed)
 
 -- ---- a stream's text
@@ -126,7 +126,7 @@ reported {out} {last} {end} {x} h p =
     let q = prints-whole out last 0 end x (omega arith) p in
     record { end-is = omega (arith, q .next-is); last-is = q .last-is; short = omega (arith, q .next-is) }
 
-few-rows : (s : List ℕ) → reportNumber s ≡ 0 → rowCount (logIn s) ≤ 1024
+few-rows : (s : List ℕ) → reportNumber s ≡ 0 → rowCount (logIn s .values) ≤ 1024
 unfolding reportNumber afterReading
 few-rows s e = rows-most (listIn s) (logIn s) 1024 (then-none (readOf s 8192 .number) _ e .1)
 
@@ -145,8 +145,8 @@ module _ (s : List ℕ) (r : ReadAnswer) (log : List ℤ) (a : r ≡ readOf s (l
       let t : refusedText (r .number) ≡ reportOf s = ap refusedText (sym k) ∙ refused-text (listIn s) (logIn s) (reportNumber s) (λ q. z (sym k ∙ q)) in
       reported (report-short s b (omega arith)) (prints-same t p)
 
-  pub read-reports : {out last : List ℕ} {end : ℕ} → r .number ≡ 0 → eitherNumber (r .list) (take (8 * r .rows) log) 1024 < 4294967296
-      → Prints out last 0 end (textOf (eitherNumber (r .list) (take (8 * r .rows) log) 1024) (r .list) (take (8 * r .rows) log))
+  pub read-reports : {out last : List ℕ} {end : ℕ} → r .number ≡ 0 → eitherNumber (r .list) (logOf (take (8 * r .rows) log)) 1024 < 4294967296
+      → Prints out last 0 end (textOf (eitherNumber (r .list) (logOf (take (8 * r .rows) log)) 1024) (r .list) (logOf (take (8 * r .rows) log)))
       → Reported out last end (reportOf s)
   unfolding reportOf reportNumber afterReading
   read-reports z h p =

@@ -9,6 +9,7 @@ use mathlib.Core.Path.{sym, _∙_, ap}
 use lib.IntN.{ℤ, negsuc}
 use Rattle.arith.specs.Gap.{eqZ}
 use Rattle.arith.specs.Laws.Local.{num}
+use Rattle.runs.specs.Log.{logOf}
 use Rattle.selection.specs.Laws.Selected.{first-selects, second-selects}
 
 by-lattice-requires : tie.Need-by-lattice-requires
@@ -29,7 +30,7 @@ returns c =
     let first = c .before .before .before .before .before .before .before .before .by-lattice in
     let second = c .before .before .by-window in
     rw (num (second .result) (second .ok))
-    (second-selects (a .list) (a .log .now) (a .marks .now) _ (first .result) (first .ensures) _ (second .result)
+    (second-selects (a .list) (logOf (a .log .now)) (a .marks .now) _ (first .result) (first .ensures) _ (second .result)
     (sym (c .before .before .before .before .if1 .taken) ∙ c .before .before .before .before .before .same .ensures ∙ ap (λ (z : ℤ). eqZ z (negsuc 8)) (num (first .result) (first .ok)))
     (second .ensures))
 
@@ -41,7 +42,7 @@ returns-2 c =
     let a = c .before .before .before .before .before .before .before .args in
     let first = c .before .before .before .before .by-lattice in
     rw (num (first .result) (first .ok))
-    (first-selects (a .list) (a .log .now) (a .marks .now) _ (first .result) (first .ensures)
+    (first-selects (a .list) (logOf (a .log .now)) (a .marks .now) _ (first .result) (first .ensures)
     (sym (c .if1 .left) ∙ c .before .same .ensures ∙ ap (λ (z : ℤ). eqZ z (negsuc 8)) (num (first .result) (first .ok))))
 
 pub by-either-spec : {M : Type 1} → statement M

@@ -10,6 +10,7 @@ use Rattle.selection.proofs.minus.Reads as minus-reads
 use mathlib.Core.Path.{_∙_}
 use lib.ListN.{replicate, length-replicate}
 use Rattle.arith.specs.Laws.Local.{num}
+use Rattle.runs.specs.Log.{logOf}
 use Rattle.selection.specs.Laws.Engines.{compared-few, compared-selects, window-refuses}
 
 -- the work list is 4,096 zeros
@@ -29,7 +30,7 @@ count-marked-requires : tie.Need-count-marked-requires
 count-marked-requires c κs =
     let a = c .before .before .before .before .before .before .before .before .before .before .args in
     let run = c .before .before .before .before .before .before .run in
-    compared-few (a .list) (a .log .now) (a .marks .now) _ (replicate 4096 0) _ (a .w) (run .result) zeros (run .ensures) _ (c .before .enum-told .given .1)
+    compared-few (a .list) (logOf (a .log .now)) (a .marks .now) _ (replicate 4096 0) _ (a .w) (run .result) zeros (run .ensures) _ (c .before .enum-told .given .1)
 
 enum-known-k : tie.Need-enum-known-k
 enum-known-k c = search needs
@@ -44,7 +45,7 @@ returns : tie.Need-returns
 returns c =
     let a = c .before .before .before .before .before .before .before .before .before .before .before .args in
     let run = c .before .before .before .before .before .before .before .run in
-    compared-selects (a .list) (a .log .now) (a .marks .now) _ (replicate 4096 0) _ (a .w) (run .result) zeros (run .ensures) _ _ (c .before .before .enum-told .given .1)
+    compared-selects (a .list) (logOf (a .log .now)) (a .marks .now) _ (replicate 4096 0) _ (a .w) (run .result) zeros (run .ensures) _ _ (c .before .before .enum-told .given .1)
     (num (c .count-marked .result) (c .count-marked .ok) ∙ c .count-marked .ensures)
 
 same-length-2 : tie.Need-same-length-2
@@ -54,7 +55,7 @@ returns-2 : tie.Need-returns-2
 returns-2 c =
     let a = c .before .before .before .before .before .before .before .before .before .before .before .args in
     let run = c .before .before .before .before .before .before .before .run in
-    window-refuses (a .list) (a .log .now) (a .marks .now) _ (replicate 4096 0) _ (a .w) (run .result) zeros (run .ensures) _ _ (c .before .before .k .given .1)
+    window-refuses (a .list) (logOf (a .log .now)) (a .marks .now) _ (replicate 4096 0) _ (a .w) (run .result) zeros (run .ensures) _ _ (c .before .before .k .given .1)
     (num (c .minus .result) (c .minus .ok) ∙ c .minus .ensures)
 
 pub by-window-spec : {M : Type 1} → statement M

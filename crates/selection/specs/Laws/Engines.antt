@@ -6,7 +6,7 @@ use lib.IntN.{ℤ, pos, negℤ}
 use lib.ListN.{length}
 use Rattle.laws.specs.Laws.Checks.{then-none}
 use Rattle.laws.specs.Laws.Outcome.{accepted-number, refused-number}
-use Rattle.runs.specs.Log.{rowCount}
+use Rattle.runs.specs.Log.{Log, rowCount}
 use Rattle.preference.specs.declared.PreferenceList.{PreferenceList}
 use Rattle.pareto.specs.Best.{marksLeft, markedRows}
 use Rattle.pareto.specs.Checked.{marksNumber, checkedNumber}
@@ -19,7 +19,7 @@ use Rattle.bnl.specs.declared.WindowAnswer.the-variants.{Compared, Refused as W
 use Rattle.selection.specs.Selected.{Selected}
 use Rattle.selection.specs.Laws.Selected.{rows-few, selects, refuses}
 
-module _ (l : PreferenceList) (log : List ℤ) (marks marks′ nodes nodes′ : List ℕ) (budget : ℕ) (answer : LatticeAnswer) (long : length nodes ≡ 32768)
+module _ (l : PreferenceList) (log : Log) (marks marks′ nodes nodes′ : List ℕ) (budget : ℕ) (answer : LatticeAnswer) (long : length nodes ≡ 32768)
     (a : lattice.Ran l log marks nodes budget answer marks′ nodes′)
   where
     abbrev number : ℕ
@@ -34,11 +34,11 @@ module _ (l : PreferenceList) (log : List ℤ) (marks marks′ nodes nodes′ : 
     crossed-none : (n : ℕ) → answer ≡ Crossed n → number ≡ 0
     crossed-none n e = sym due ∙ accepted-number _ _ n (sym (ap lattice.outcomeOf e) ∙ a .ends)
 
-    pub crossed-few : (n : ℕ) → answer ≡ Crossed n → rowCount log ≤ 1024
+    pub crossed-few : (n : ℕ) → answer ≡ Crossed n → rowCount (log .values) ≤ 1024
     unfolding lattice.latticeNumber
-    crossed-few n e = rows-few l log (marksNumber log (length marks)) (then-none (checkedNumber l log (marksNumber log (length marks))) _ (crossed-none n e) .0)
+    crossed-few n e = rows-few l log (marksNumber (log .values) (length marks)) (then-none (checkedNumber l log (marksNumber (log .values) (length marks))) _ (crossed-none n e) .0)
 
-    pub crossed-selects : (n : ℕ) (r : ℤ) → answer ≡ Crossed n → r ≡ pos (length (markedRows marks′ (rowCount log))) → Selected number l log marks marks′ r
+    pub crossed-selects : (n : ℕ) (r : ℤ) → answer ≡ Crossed n → r ≡ pos (length (markedRows marks′ (rowCount (log .values)))) → Selected number l log marks marks′ r
     crossed-selects n r e q = selects l log marks number marks′ r (crossed-none n e) left q
 
     pub lattice-refuses : (k : ℕ) (r : ℤ) → answer ≡ LatticeRefused k → r ≡ negℤ (pos k) → Selected number l log marks marks′ r
@@ -46,7 +46,7 @@ module _ (l : PreferenceList) (log : List ℤ) (marks marks′ nodes nodes′ : 
         let n = refused-number _ _ k (sym (ap lattice.outcomeOf e) ∙ a .ends) in
         refuses l log marks number k marks′ r (sym due ∙ n .0) (λ z. n .1 (due ∙ z)) left q
 
-module _ (l : PreferenceList) (log : List ℤ) (marks marks′ work work′ : List ℕ) (w : ℕ) (answer : WindowAnswer) (long : length work ≡ 4096)
+module _ (l : PreferenceList) (log : Log) (marks marks′ work work′ : List ℕ) (w : ℕ) (answer : WindowAnswer) (long : length work ≡ 4096)
     (a : window.Answered l log w marks marks′ work work′ answer)
   where
     abbrev windowed : ℕ
@@ -61,11 +61,11 @@ module _ (l : PreferenceList) (log : List ℤ) (marks marks′ work work′ : Li
     compared-none : (n : ℕ) → answer ≡ Compared n → windowed ≡ 0
     compared-none n e = sym window-due ∙ accepted-number _ _ n (sym (ap window.outcomeOf e) ∙ a .answer)
 
-    pub compared-few : (n : ℕ) → answer ≡ Compared n → rowCount log ≤ 1024
+    pub compared-few : (n : ℕ) → answer ≡ Compared n → rowCount (log .values) ≤ 1024
     unfolding window.windowNumber
     compared-few n e = rows-few l log (window.sizesNumber log (length marks) 4096 w) (compared-none n e)
 
-    pub compared-selects : (n : ℕ) (r : ℤ) → answer ≡ Compared n → r ≡ pos (length (markedRows marks′ (rowCount log))) → Selected windowed l log marks marks′ r
+    pub compared-selects : (n : ℕ) (r : ℤ) → answer ≡ Compared n → r ≡ pos (length (markedRows marks′ (rowCount (log .values)))) → Selected windowed l log marks marks′ r
     compared-selects n r e q = selects l log marks windowed marks′ r (compared-none n e) window-left q
 
     pub window-refuses : (k : ℕ) (r : ℤ) → answer ≡ WindowRefused k → r ≡ negℤ (pos k) → Selected windowed l log marks marks′ r

@@ -11,7 +11,7 @@ use borrow.Author.Tests.{eq-eqb, ne-eqb, eqb-true, eqb-false}
 use Rattle.arith.specs.Gap.{eqZ}
 use Rattle.laws.specs.Lists.{joined}
 use Rattle.laws.specs.Laws.Checks.{then-none}
-use Rattle.runs.specs.Log.{rowCount, logNumber}
+use Rattle.runs.specs.Log.{Log, rowCount, logNumber}
 use Rattle.runs.specs.Laws.Log.{accepted}
 use Rattle.preference.specs.Valid.{listNumber}
 use Rattle.preference.specs.declared.PreferenceList.{PreferenceList}
@@ -41,18 +41,18 @@ count-few marks (suc n) = let q : suc n ≡ n + 1 = omega arith in rw q (omega (
 
 -- ---- results
 
-pub rows-few : (l : PreferenceList) (log : List ℤ) (more : ℕ) → checkedNumber l log more ≡ 0 → rowCount log ≤ 1024
+pub rows-few : (l : PreferenceList) (log : Log) (more : ℕ) → checkedNumber l log more ≡ 0 → rowCount (log .values) ≤ 1024
 unfolding checkedNumber
-rows-few l log more z = omega (arith, accepted log (then-none (logNumber log) _ (then-none (listNumber l) _ z .1) .0) .few)
+rows-few l log more z = omega (arith, accepted (log .values) (then-none (logNumber (log .values)) _ (then-none (listNumber l) _ z .1) .0) .few)
 
-module _ (l : PreferenceList) (log : List ℤ) (marks : List ℕ) where
+module _ (l : PreferenceList) (log : Log) (marks : List ℕ) where
   -- what an accepted call counts
-  pub selects : (k : ℕ) (marks′ : List ℕ) (r : ℤ) → k ≡ 0 → marks′ ≡ marksLeft k l log marks → r ≡ pos (length (markedRows marks′ (rowCount log))) → Selected k l log marks marks′ r
+  pub selects : (k : ℕ) (marks′ : List ℕ) (r : ℤ) → k ≡ 0 → marks′ ≡ marksLeft k l log marks → r ≡ pos (length (markedRows marks′ (rowCount (log .values)))) → Selected k l log marks marks′ r
   unfolding resultOf marksLeft
   selects k marks′ r z m e =
       let after : marks′ ≡ marksAfter l log marks = m ∙ rw (eq-eqb k 0 z) in
       record {
-        result = e ∙ ap (λ (b : List ℕ). pos (length b)) (ap (λ (b : List ℕ). markedRows b (rowCount log)) after ∙ marked-best l log marks) ∙ rw (eq-eqb k 0 z);
+        result = e ∙ ap (λ (b : List ℕ). pos (length b)) (ap (λ (b : List ℕ). markedRows b (rowCount (log .values))) after ∙ marked-best l log marks) ∙ rw (eq-eqb k 0 z);
         marks-are = m;
       }
 
@@ -72,7 +72,7 @@ nine (suc k) best = rw (ne-eqb (suc k) 0 (λ e. absurd (omega arith))) (shifted 
     shifted true e = sym (eq-eqb (suc k) 9 (omega (arith, eqb-true k 8 e)))
     shifted false e = sym (ne-eqb (suc k) 9 (λ q. eqb-false k 8 e (omega arith)))
 
-module _ (l : PreferenceList) (log : List ℤ) (marks marks′ : List ℕ) (r : ℤ) (a : Selected (latticeNumber l log (length marks) 32768 262144) l log marks marks′ r) where
+module _ (l : PreferenceList) (log : Log) (marks marks′ : List ℕ) (r : ℤ) (a : Selected (latticeNumber l log (length marks) 32768 262144) l log marks marks′ r) where
   told : (t : Bool) → t ≡ eqZ r (negsuc 8) → eqb (latticeNumber l log (length marks) 32768 262144) 9 ≡ t
   told t e = sym (nine (latticeNumber l log (length marks) 32768 262144) (length (bestMatches l log))) ∙ ap (λ (z : ℤ). eqZ z (negsuc 8)) (sym (a .result)) ∙ sym e
 

@@ -7,6 +7,7 @@ use lib.IntN.{ℤ, pos, negℤ}
 use lib.ListN.{length, take, replicate, length-replicate, length-take}
 use borrow.Author.Tests.{ne-eqb}
 use Rattle.laws.specs.Laws.Checks.{then-first, then-next}
+use Rattle.runs.specs.Log.{Log, logOf}
 use Rattle.preference.specs.declared.PreferenceList.{PreferenceList}
 use Rattle.pareto.specs.Best.{marksLeft}
 use Rattle.format.specs.Read.{readOf, logAfter}
@@ -39,7 +40,7 @@ module _ (s : List ℕ) (r : ReadAnswer) (log : List ℤ) (a : r ≡ readOf s (l
         omega (arith, b .fits, ap (λ (x : ReadAnswer). x .rows) (b .answer), ap (λ (x : ReadAnswer). x .rows) answer)
 
     -- the rows read are those of the stream
-    pub rows-are : take (8 * r .rows) log ≡ logIn s
+    pub rows-are : take (8 * r .rows) log ≡ logIn s .values
     rows-are = rw (f, answer, sym blank-long) (log-read s blank (rw blank-long none))
 
     pub rows-long : length (take (8 * r .rows) log) ≡ 8 * r .rows
@@ -48,7 +49,7 @@ module _ (s : List ℕ) (r : ReadAnswer) (log : List ℤ) (a : r ≡ readOf s (l
     pub rows-fit : 8 * r .rows ≤ length log
     rows-fit = omega (arith, rows-long, length-take (8 * r .rows) log)
 
-  module _ (number : PreferenceList → List ℤ → ℕ) (marks : List ℕ) (x : ℤ) where
+  module _ (number : PreferenceList → Log → ℕ) (marks : List ℕ) (x : ℤ) where
     -- reading refuses the stream
     pub unread-selects : (r .number ≡ 0 → ⊥) → x ≡ negℤ (pos (r .number)) → Selected (afterReading s number) (listIn s) (logIn s) marks marks x
     unfolding afterReading marksLeft
@@ -59,7 +60,7 @@ module _ (s : List ℕ) (r : ReadAnswer) (log : List ℤ) (a : r ≡ readOf s (l
         refuses (listIn s) (logIn s) marks (afterReading s number) (r .number) marks x (k ∙ sym n) (λ q. some (sym k ∙ q)) (rw (k, ne-eqb (readOf s 8192 .number) 0 some)) e
 
     -- reading accepts it, and the call on what was read ends
-    pub read-selects : (marks′ : List ℕ) → r .number ≡ 0 → Selected (number (r .list) (take (8 * r .rows) log)) (r .list) (take (8 * r .rows) log) marks marks′ x
+    pub read-selects : (marks′ : List ℕ) → r .number ≡ 0 → Selected (number (r .list) (logOf (take (8 * r .rows) log))) (r .list) (logOf (take (8 * r .rows) log)) marks marks′ x
         → Selected (afterReading s number) (listIn s) (logIn s) marks marks′ x
     unfolding afterReading
     read-selects marks′ z b = rw (then-next (readOf s 8192 .number) (number (listIn s) (logIn s)) (none z)) (rw (rows-are z, answer) at b)
