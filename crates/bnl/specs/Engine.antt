@@ -5,6 +5,7 @@ use mathlib.Core.Bool.{_||_}
 use mathlib.Core.List.{List}
 use lib.Dec.{ltb, eqb}
 use lib.ListN.{length}
+use Rattle.limits.specs.Limits.{maxWindow}
 use Rattle.laws.specs.Checks.{_gives_, _then_}
 use Rattle.laws.specs.Outcome.{Outcome, accepted, refused, outcome}
 use Rattle.runs.specs.Log.{Log, rowCount}
@@ -17,7 +18,10 @@ use Rattle.bnl.specs.declared.WindowAnswer.the-variants.{Compared, Refus
 
 -- 10: "lent buffer too short, w not 1 to 1,024", the work list "at least 2 × (rows + w) numbers"
 unfoldable pub sizesNumber : Log → ℕ → ℕ → ℕ → ℕ
-sizesNumber log marks work w = marksNumber (log .values) marks then eqb w 0 || ltb 1024 w gives 10 then ltb work (2 * (rowCount (log .values) + w)) gives 10
+sizesNumber log marks work w =
+    marksNumber (log .values) marks then
+    eqb w 0 || ltb maxWindow w gives 10 then
+    ltb work (2 * (rowCount (log .values) + w)) gives 10
 
 -- the number of a call, from the lengths of its marks and its work list
 unfoldable pub windowNumber : PreferenceList → Log → ℕ → ℕ → ℕ → ℕ

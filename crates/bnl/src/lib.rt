@@ -18,13 +18,14 @@ pub enum WindowAnswer {
 fn sizes_number(log: &[i32], marks: usize, work: usize, w: u32) -> u8
     ensures { λ k. ⌜ k ≡ sizesNumber (logOf (now (log .entry))) marks work w ⌝ }
 {
-    let n = log.len() / 8;
-    if marks < n {
+    let short = runs::marks_number(log, marks);
+    if short != 0 {
+        return short;
+    }
+    if (w == 0) | (limits::MAX_WINDOW < w) {
         return 10;
     }
-    if (w == 0) | (1024 < w) {
-        return 10;
-    }
+    let n = runs::row_count(log);
     if work < 2 * (n + w as usize) { 10 } else { 0 }
 }
 
@@ -41,12 +42,12 @@ fn run_accepted(
         ⌜ (c ≡ machineOf list (logOf (now (log .entry))) w .count)
         × (now (marks .exit) ≡ marksAfter list (logOf (now (log .entry))) (now (marks .entry))) ⌝ }
 {
-    let n = log.len() / 8;
-    let mut table = [0u16; 8192];
+    let mut table = [0u16; limits::MAX_VALUES];
     let length = level_table::table_length(list, log);
     level_table::fill_table(list, log, &mut table[..length]);
-    let mut rows = [0usize; 1024];
+    let mut rows = [0usize; limits::MAX_RUNS];
     let count = pareto::competing_rows(log, &mut rows);
+    let n = runs::row_count(log);
     passes::run_rows(
         &table[..length],
         &rows[..count],

@@ -56,12 +56,12 @@ fn first_of_log(list: PreferenceList, log: &[i32], row: usize) -> usize
     requires { ⌜ Accepted list (logOf (now log)) row ⌝ }
     ensures { λ s. ⌜ s ≡ firstDominator list (logOf (now (log .entry))) row ⌝ }
 {
-    let n = log.len() / 8;
-    let mut table = [0u16; 8192];
+    let mut table = [0u16; limits::MAX_VALUES];
     let length = level_table::table_length(list, log);
     level_table::fill_table(list, log, &mut table[..length]);
-    let mut rows = [0usize; 1024];
+    let mut rows = [0usize; limits::MAX_RUNS];
     let count = pareto::competing_rows(log, &mut rows);
+    let n = runs::row_count(log);
     first_dominator(&table[..length], &rows[..count], row, n)
 }
 
@@ -73,7 +73,7 @@ pub fn of(list: PreferenceList, log: &[i32], row: u32) -> DominatorAnswer
     if number != 0 {
         return DominatorAnswer::Refused(number);
     }
-    let n = log.len() / 8;
+    let n = runs::row_count(log);
     let asked = row as usize;
     if n <= asked {
         return DominatorAnswer::Refused(12);

@@ -25,7 +25,10 @@ zeros = replicate 8192 0
 fits : (t : tie.After-table-length) → t .table-length .result ≤ 8192
 fits t = let s = t .before .before .before in omega (arith, t .table-length .ensures, table-fits (s .args .list) (s .args .log .now) (s .pre .few))
 
-module _ (d : tie.After-competing-rows) where
+module _ (e : tie.After-row-count) where
+  abbrev d : tie.After-competing-rows
+  d = e .before .before
+
   abbrev start : tie.Start
   start = d .before .before .before .before .before .before .before .before
 
@@ -59,13 +62,16 @@ module _ (d : tie.After-competing-rows) where
       competing-front log _ rows (d .competing-rows .result) (omega (arith, start .pre .few, length-replicate {A = ℕ} 1024 0))
       (d .competing-rows .ensures .0) (d .competing-rows .ensures .1)
 
-  marks-long : length (take (rowCount (log .values)) (start .args .marks .now)) ≡ rowCount (log .values)
-  marks-long = length-take-le _ (start .args .marks .now) (start .pre .marked)
+  abbrev handed : List ℕ
+  handed = take (e .row-count .result) (start .args .marks .now)
+
+  marks-handed : length handed ≡ e .row-count .result
+  marks-handed = length-take-le _ (start .args .marks .now) (omega (arith, e .row-count .ensures, start .pre .marked))
 
   -- the machine that runs is the machine on the log
-  runs : machine (tableDominates (take long table)) (start .args .w) (take (d .competing-rows .result) rows) (length (take (rowCount (log .values)) (start .args .marks .now)))
+  runs : machine (tableDominates (take long table)) (start .args .w) (take (d .competing-rows .result) rows) (length handed)
       ≡ machineOf (start .args .list) log (start .args .w)
-  runs = filled-machine (start .args .list) log _ _ (start .args .w) (start .pre) _ _ _ table-is rows-are marks-long
+  runs = filled-machine (start .args .list) log _ _ (start .args .w) (start .pre) _ _ _ table-is rows-are (marks-handed ∙ e .row-count .ensures)
 
 table-length-requires : tie.Need-table-length-requires
 table-length-requires c κs = search needs
@@ -85,33 +91,36 @@ slice-aggregate-competing-rows c = search needs
 competing-rows-requires : tie.Need-competing-rows-requires
 competing-rows-requires c κs = search needs
 
+row-count-requires : tie.Need-row-count-requires
+row-count-requires c κs = search needs
+
 array-share-prefix-table : tie.Need-array-share-prefix-table
-array-share-prefix-table c = table-long (c .before)
+array-share-prefix-table c = table-long c
 
 slice-aggregate-run-rows : tie.Need-slice-aggregate-run-rows
-slice-aggregate-run-rows c = sym (length-take-le _ (table (c .before .before)) (table-long (c .before .before)))
+slice-aggregate-run-rows c = sym (length-take-le _ (table (c .before)) (table-long (c .before)))
 
 array-share-prefix-rows : tie.Need-array-share-prefix-rows
-array-share-prefix-rows c = rows-long (c .before .before)
+array-share-prefix-rows c = rows-long (c .before)
 
 slice-aggregate-run-rows-2 : tie.Need-slice-aggregate-run-rows-2
-slice-aggregate-run-rows-2 c = sym (length-take-le _ (rows (c .before .before .before)) (rows-long (c .before .before .before)))
+slice-aggregate-run-rows-2 c = sym (length-take-le _ (rows (c .before .before)) (rows-long (c .before .before)))
 
 slice-relend-prefix-run-rows : tie.Need-slice-relend-prefix-run-rows
 slice-relend-prefix-run-rows c = search needs
 
 slice-aggregate-run-rows-3 : tie.Need-slice-aggregate-run-rows-3
-slice-aggregate-run-rows-3 c = sym (marks-long (c .before .before .before .before))
+slice-aggregate-run-rows-3 c = sym (marks-handed (c .before .before .before))
 
 run-rows-requires : tie.Need-run-rows-requires
 run-rows-requires c κs =
-    let d = c .before .before .before .before .before in
+    let d = c .before .before .before .before in
     let s = start d in
     rw (rows-are d) (rows-wait (s .args .list) (logOf (s .args .log .now)) _ _ (s .args .w) (s .pre))
 
 cast-result : tie.Need-cast-result
 cast-result c =
-    let d = c .before .before .before .before .before .before .before .before .before .before in
+    let d = c .before .before .before .before .before .before .before .before .before in
     let s = start d in
     omega (arith, c .before .before .before .before .run-rows .ensures .0 ∙ ap (λ (st : State). st .count) (runs d), count-small (s .args .list) (logOf (s .args .log .now)) (s .args .w) (s .pre .some) (s .pre .few))
 
@@ -124,11 +133,12 @@ same-length-2 c = search needs
 returns : tie.Need-returns
 unfolding marksAfter
 returns c =
-    let d = c .before .before .before .before .before .before .before .before .before .before in
+    let d = c .before .before .before .before .before .before .before .before .before in
     let a = start d .args in
     let r = c .before .before .before .before .run-rows .ensures in (
       r .0 ∙ ap (λ (st : State). st .count) (runs d),
-      ap (λ (x : List ℕ). x ++ drop (rowCount (a .log .now)) (a .marks .now))
+      ap (λ (n : ℕ). c .before .before .before .before .run-rows .last .1 .1 .1 .0 ++ drop n (a .marks .now)) (d .row-count .ensures)
+          ∙ ap (λ (x : List ℕ). x ++ drop (rowCount (a .log .now)) (a .marks .now))
           (r .1 ∙ ap (λ (st : State). st .marks) (runs d) ∙ machine-best (a .list) (logOf (a .log .now)) (a .w) (start d .pre .some)),
     )
 
@@ -142,6 +152,7 @@ run-accepted-spec =
     fill-table-requires
     slice-aggregate-competing-rows
     competing-rows-requires
+    row-count-requires
     array-share-prefix-table
     slice-aggregate-run-rows
     array-share-prefix-rows

@@ -1,23 +1,32 @@
-use mathlib.Core.Path.{_≡_}
-use mathlib.Core.Bool.{true, _||_}
-use lib.Dec.{eqb, ltb}
+use mathlib.Core.Path.{sym, _∙_}
+use Prim.Native.Nat.{_+_, _*_}
+use native.Mathlib.Omega.{arith}
 use borrow.Author.Tests.{lt-ltb, le-ltb}
-use Rattle.laws.specs.Checks.{_gives_, _then_}
-use Rattle.bnl.specs.Engine.{sizesNumber}
 use borrow.Author.Needs.{needs}
+use Rattle.laws.specs.Checks.{_gives_, _then_}
+use Rattle.laws.specs.Laws.Checks.{then-first}
+use Rattle.runs.specs.Log.{rowCount}
+use Rattle.bnl.specs.Engine.{sizesNumber}
 use Rattle.bnl.proofs.sizes_number.Statement.{statement}
 use Rattle.bnl.proofs.sizes_number.Tie as tie
 
+marks-number-requires : tie.Need-marks-number-requires
+marks-number-requires c κs = search needs
+
 returns : tie.Need-returns
-unfolding sizesNumber _gives_ _then_
-returns c = rw (lt-ltb _ _ (c .if1 .taken))
+unfolding sizesNumber
+returns c =
+    let n = c .before .marks-number in
+    n .ensures ∙ sym (then-first _ _ (λ e. c .if1 .taken (n .ensures ∙ e)))
 
 returns-2 : tie.Need-returns-2
 unfolding sizesNumber _gives_ _then_
-returns-2 c = rw (le-ltb _ _ (c .before .if1 .left), outside)
-  where
-    outside : (eqb (c .before .before .args .w) 0 || ltb 1024 (c .before .before .args .w)) ≡ true
-    outside = c .if2 .taken
+returns-2 c =
+    let n = c .before .before .marks-number in
+    rw (sym (n .ensures) ∙ c .before .if1 .left, c .if2 .taken)
+
+row-count-requires : tie.Need-row-count-requires
+row-count-requires c κs = search needs
 
 add-if3 : tie.Need-add-if3
 add-if3 c = search needs
@@ -28,14 +37,18 @@ mul-if3 c = search needs
 returns-3 : tie.Need-returns-3
 unfolding sizesNumber _gives_ _then_
 returns-3 c =
-    let b = c .before in
-    rw (le-ltb _ _ (b .before .if1 .left), b .if2 .left, lt-ltb _ _ (c .if3 .taken))
+    let b = c .before .before in
+    let n = b .before .before .marks-number in
+    let a = b .before .before .before .args in
+    rw (sym (n .ensures) ∙ b .before .if1 .left, b .if2 .left, lt-ltb (a .work) (2 * (rowCount (a .log .now) + a .w)) (omega (arith, c .before .row-count .ensures, c .if3 .taken)))
 
 returns-4 : tie.Need-returns-4
 unfolding sizesNumber _gives_ _then_
 returns-4 c =
-    let b = c .before in
-    rw (le-ltb _ _ (b .before .if1 .left), b .if2 .left, le-ltb _ _ (c .if3 .left))
+    let b = c .before .before in
+    let n = b .before .before .marks-number in
+    let a = b .before .before .before .args in
+    rw (sym (n .ensures) ∙ b .before .if1 .left, b .if2 .left, le-ltb (a .work) (2 * (rowCount (a .log .now) + a .w)) (omega (arith, c .before .row-count .ensures, c .if3 .left)))
 
 pub sizes-number-spec : {M : Type 1} → statement M
-sizes-number-spec = tie.close (tie.spec returns returns-2 add-if3 mul-if3 returns-3 returns-4)
+sizes-number-spec = tie.close (tie.spec marks-number-requires returns returns-2 row-count-requires add-if3 mul-if3 returns-3 returns-4)

@@ -10,6 +10,7 @@ use Rattle.pareto.specs.Best.{competing}
 use Rattle.level_table.specs.Table.{tableOf}
 use Rattle.pareto.specs.Laws.Competing.{competing-few, competing-front}
 use Rattle.level_table.specs.Laws.Table.{table-fits, handed-fits, table-handed}
+use Rattle.dominator.specs.First.{bestBeats, firstOf}
 use Rattle.dominator.specs.Laws.First.{first-in-table}
 use Rattle.dominator.proofs.first_of_log.Statement.{statement}
 use Rattle.dominator.proofs.first_of_log.Tie as tie
@@ -22,7 +23,10 @@ fits : (t : tie.After-table-length) → t .table-length .result ≤ 8192
 fits t = omega (arith, t .table-length .ensures, table-fits (t .before .args .list) (t .before .args .log .now) (t .before .pre .few))
 
 -- the table and the rows at the front of their arrays
-module _ (d : tie.After-competing-rows) where
+module _ (e : tie.After-row-count) where
+  abbrev d : tie.After-competing-rows
+  d = e .before .before
+
   abbrev start : tie.Start
   start = d .before .before .before .before .before .before
 
@@ -72,26 +76,32 @@ slice-aggregate-competing-rows c = search needs
 competing-rows-requires : tie.Need-competing-rows-requires
 competing-rows-requires c κs = search needs
 
+row-count-requires : tie.Need-row-count-requires
+row-count-requires c κs = search needs
+
 array-share-prefix-table : tie.Need-array-share-prefix-table
-array-share-prefix-table c = table-long (c .before)
+array-share-prefix-table c = table-long c
 
 slice-aggregate-first-dominator : tie.Need-slice-aggregate-first-dominator
-slice-aggregate-first-dominator c = sym (length-take-le _ (table (c .before .before)) (table-long (c .before .before)))
+slice-aggregate-first-dominator c = sym (length-take-le _ (table (c .before)) (table-long (c .before)))
 
 array-share-prefix-rows : tie.Need-array-share-prefix-rows
-array-share-prefix-rows c = rows-long (c .before .before)
+array-share-prefix-rows c = rows-long (c .before)
 
 slice-aggregate-first-dominator-2 : tie.Need-slice-aggregate-first-dominator-2
-slice-aggregate-first-dominator-2 c = sym (length-take-le _ (rows (c .before .before .before)) (rows-long (c .before .before .before)))
+slice-aggregate-first-dominator-2 c = sym (length-take-le _ (rows (c .before .before)) (rows-long (c .before .before)))
 
 first-dominator-requires : tie.Need-first-dominator-requires
 first-dominator-requires c κs = search needs
 
 returns : tie.Need-returns
 returns c =
-    let d = c .before .before .before .before in
+    let d = c .before .before .before in
     let s = start d in
-    c .first-dominator .ensures ∙ rw (table-is d, rows-are d) (first-in-table (s .args .list) (logOf (s .args .log .now)) (s .args .row) (s .pre))
+    let listed = take (d .before .before .competing-rows .result) (rows d) in
+    c .first-dominator .ensures
+    ∙ ap (λ (none : ℕ). firstOf (bestBeats (take (long d) (table d)) listed (s .args .row)) listed none) (d .row-count .ensures)
+    ∙ rw (table-is d, rows-are d) (first-in-table (s .args .list) (logOf (s .args .log .now)) (s .args .row) (s .pre))
 
 pub first-of-log-spec : {M : Type 1} → statement M
 first-of-log-spec =
@@ -103,6 +113,7 @@ first-of-log-spec =
     fill-table-requires
     slice-aggregate-competing-rows
     competing-rows-requires
+    row-count-requires
     array-share-prefix-table
     slice-aggregate-first-dominator
     array-share-prefix-rows

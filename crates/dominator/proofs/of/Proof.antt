@@ -14,38 +14,41 @@ returns c =
     let k = c .before .checked-number in
     refused (a .list) (logOf (a .log .now)) (a .row) (k .result) (k .ensures) (c .if1 .taken)
 
+row-count-requires : tie.Need-row-count-requires
+row-count-requires c κs = search needs
+
 returns-2 : tie.Need-returns-2
 returns-2 c =
-    let a = c .before .before .before .args in
-    let k = c .before .before .checked-number in
-    no-row (a .list) (logOf (a .log .now)) (a .row) (k .result) (k .ensures) (c .before .if1 .left) (omega (arith, c .if2 .taken))
+    let a = c .before .before .before .before .args in
+    let k = c .before .before .before .checked-number in
+    no-row (a .list) (logOf (a .log .now)) (a .row) (k .result) (k .ensures) (c .before .before .if1 .left) (omega (arith, c .if2 .taken, c .before .row-count .ensures))
 
 first-of-log-requires : tie.Need-first-of-log-requires
 first-of-log-requires c κs =
-    let a = c .before .before .before .args in
-    let k = c .before .before .checked-number in
-    accepted (a .list) (logOf (a .log .now)) (a .row) (k .result) (k .ensures) (c .before .if1 .left) (omega (arith, c .if2 .left))
+    let a = c .before .before .before .before .args in
+    let k = c .before .before .before .checked-number in
+    accepted (a .list) (logOf (a .log .now)) (a .row) (k .result) (k .ensures) (c .before .before .if1 .left) (omega (arith, c .if2 .left, c .before .row-count .ensures))
 
 returns-3 : tie.Need-returns-3
 returns-3 c =
-    let a = c .before .before .before .before .before .args in
-    let k = c .before .before .before .before .checked-number in
+    let a = c .before .before .before .before .before .before .args in
+    let k = c .before .before .before .before .before .checked-number in
     let b = c .before .first-of-log in
-    shortlisted (a .list) (logOf (a .log .now)) (a .row) (k .result) (k .ensures) (c .before .before .before .if1 .left) (omega (arith, c .before .before .if2 .left)) (b .result) (b .ensures) (omega (arith, c .if3 .taken))
+    shortlisted (a .list) (logOf (a .log .now)) (a .row) (k .result) (k .ensures) (c .before .before .before .before .if1 .left) (omega (arith, c .before .before .if2 .left, c .before .before .before .row-count .ensures)) (b .result) (b .ensures) (omega (arith, c .if3 .taken, c .before .before .before .row-count .ensures))
 
-cast-t10 : tie.Need-cast-t10
-cast-t10 c =
-    let a = c .before .before .before .before .before .args in
-    let k = c .before .before .before .before .checked-number in
-    let g = accepted (a .list) (logOf (a .log .now)) (a .row) (k .result) (k .ensures) (c .before .before .before .if1 .left) (omega (arith, c .before .before .if2 .left)) in
-    omega (arith, g .few, c .if3 .left)
+cast-t9 : tie.Need-cast-t9
+cast-t9 c =
+    let a = c .before .before .before .before .before .before .args in
+    let k = c .before .before .before .before .before .checked-number in
+    let g = accepted (a .list) (logOf (a .log .now)) (a .row) (k .result) (k .ensures) (c .before .before .before .before .if1 .left) (omega (arith, c .before .before .if2 .left, c .before .before .before .row-count .ensures)) in
+    omega (arith, g .few, c .if3 .left, c .before .before .before .row-count .ensures)
 
 returns-4 : tie.Need-returns-4
 returns-4 c =
-    let a = c .before .before .before .before .before .args in
-    let k = c .before .before .before .before .checked-number in
+    let a = c .before .before .before .before .before .before .args in
+    let k = c .before .before .before .before .before .checked-number in
     let b = c .before .first-of-log in
-    beaten (a .list) (logOf (a .log .now)) (a .row) (k .result) (k .ensures) (c .before .before .before .if1 .left) (omega (arith, c .before .before .if2 .left)) (b .result) (b .ensures) (omega (arith, c .if3 .left))
+    beaten (a .list) (logOf (a .log .now)) (a .row) (k .result) (k .ensures) (c .before .before .before .before .if1 .left) (omega (arith, c .before .before .if2 .left, c .before .before .before .row-count .ensures)) (b .result) (b .ensures) (omega (arith, c .if3 .left, c .before .before .before .row-count .ensures))
 
 pub of-spec : {M : Type 1} → statement M
 of-spec =
@@ -53,8 +56,9 @@ of-spec =
     (tie.spec
     checked-number-requires
     returns
+    row-count-requires
     returns-2
     first-of-log-requires
     returns-3
-    cast-t10
+    cast-t9
     returns-4)
