@@ -2,12 +2,13 @@
 ghost use mathlib.Core.Path.{_≡_};
 ghost use Prim.Native.Nat.{_+_, _<_};
 ghost use lib.Signed.{leZ};
+ghost use Rattle.limits.specs.Limits.{u32End};
 ghost use Rattle.arith.specs.Gap.{gap, eqZ};
 ghost use Rattle.arith.specs.Ceil.{ceilDiv};
 
 // How far a lies above b, and 0 where it does not. The difference of two i32 can need 33 bits, so it is taken in i64.
 pub fn signed_gap(a: i32, b: i32) -> u64
-    ensures { λ r. ⌜ (r ≡ gap a b) × (r < 4294967296) ⌝ }
+    ensures { λ r. ⌜ (r ≡ gap a b) × (r < u32End) ⌝ }
 {
     let d = a as i64 - b as i64;
     if d < 0 {

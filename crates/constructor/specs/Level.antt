@@ -20,21 +20,28 @@ distance (Around lo hi step z) v = gap v z + gap z v
 distance (Between lo hi step low up) v = gap low v + gap v up
 distance (Layered top others) v = 0
 
+-- the least and the greatest number of 32 bits
+abbrev pub least : ℤ
+least = negsuc 2147483647
+
+abbrev pub greatest : ℤ
+greatest = pos 2147483647
+
 -- lo, hi and step; LAYERED has no bounds, so it takes every i32
 abbrev pub scaleOf : Constructor → Scale
 scaleOf (Lowest lo hi step) = record { lo = lo; hi = hi; step = step }
 scaleOf (Highest lo hi step) = record { lo = lo; hi = hi; step = step }
 scaleOf (Around lo hi step z) = record { lo = lo; hi = hi; step = step }
 scaleOf (Between lo hi step low up) = record { lo = lo; hi = hi; step = step }
-scaleOf (Layered top others) = record { lo = negsuc 2147483647; hi = pos 2147483647; step = 1 }
+scaleOf (Layered top others) = record { lo = least; hi = greatest; step = 1 }
 
 -- the values at distance 0; bounds that no i32 lies outside where the form has none (Laws/Target.antt)
 abbrev pub targetOf : Constructor → Target
-targetOf (Lowest lo hi step) = record { low = negsuc 2147483647; up = lo }
-targetOf (Highest lo hi step) = record { low = hi; up = pos 2147483647 }
+targetOf (Lowest lo hi step) = record { low = least; up = lo }
+targetOf (Highest lo hi step) = record { low = hi; up = greatest }
 targetOf (Around lo hi step z) = record { low = z; up = z }
 targetOf (Between lo hi step low up) = record { low = low; up = up }
-targetOf (Layered top others) = record { low = negsuc 2147483647; up = pos 2147483647 }
+targetOf (Layered top others) = record { low = least; up = greatest }
 
 -- v lies in lo..hi
 unfoldable pub inside : Constructor → ℤ → Bool

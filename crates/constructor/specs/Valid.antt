@@ -3,6 +3,7 @@ use Prim.Native.Nat.{ℕ}
 use mathlib.Core.Bool.{Bool, not, _&&_}
 use lib.Dec.{leb, ltb}
 use lib.Signed.{leZ}
+use Rattle.limits.specs.Limits.{maxLayer, greatestLevel}
 use Rattle.laws.specs.Checks.{_gives_, _then_}
 use Rattle.constructor.specs.Level.{maxLevel, layeringOf}
 use Rattle.constructor.specs.declared.Constructor.{Constructor}
@@ -16,11 +17,11 @@ sound (Lowest lo hi step) = leZ lo hi && ltb 0 step
 sound (Highest lo hi step) = leZ lo hi && ltb 0 step
 sound (Around lo hi step z) = leZ lo z && leZ z hi && ltb 0 step
 sound (Between lo hi step low up) = leZ lo low && leZ low up && leZ up hi && ltb 0 step
-sound (Layered top others) = ltb 0 top && leb top 15 && leb others top
+sound (Layered top others) = ltb 0 top && leb top maxLayer && leb others top
 
 -- 6, then 7 for "M above 65,535"
 unfoldable pub constructorNumber : Constructor → ℕ
-constructorNumber c = not (sound c) gives 6 then ltb 65535 (maxLevel c) gives 7
+constructorNumber c = not (sound c) gives 6 then ltb greatestLevel (maxLevel c) gives 7
 
 abbrev pub numberUnder : Layering → ℕ → ℕ
 numberUnder Numeric layer = 3

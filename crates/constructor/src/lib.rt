@@ -7,6 +7,11 @@ ghost use Rattle.arith.specs.Ceil.{ceilDiv};
 ghost use Rattle.constructor.specs.Level.{scaleOf, targetOf, layeringOf, numericLevel, maxLevel, inside};
 ghost use Rattle.constructor.specs.Valid.{sound, constructorNumber, layerNumber};
 
+// The least and the greatest number of 32 bits.
+const LEAST: i32 = -2147483648;
+
+const GREATEST: i32 = 2147483647;
+
 pub enum Constructor {
     Lowest {
         lo: i32,
@@ -87,8 +92,8 @@ pub fn scale_of(c: Constructor) -> Scale
             step: step,
         },
         Constructor::Layered { top: _, others: _ } => Scale {
-            lo: -2147483648,
-            hi: 2147483647,
+            lo: LEAST,
+            hi: GREATEST,
             step: 1,
         },
     }
@@ -132,13 +137,10 @@ pub fn target_of(c: Constructor) -> Target
     ensures { λ r. ⌜ r ≡ targetOf c ⌝ }
 {
     match c {
-        Constructor::Lowest { lo, hi: _, step: _ } => Target {
-            low: -2147483648,
-            up: lo,
-        },
+        Constructor::Lowest { lo, hi: _, step: _ } => Target { low: LEAST, up: lo },
         Constructor::Highest { lo: _, hi, step: _ } => Target {
             low: hi,
-            up: 2147483647,
+            up: GREATEST,
         },
         Constructor::Around {
             lo: _,
@@ -154,8 +156,8 @@ pub fn target_of(c: Constructor) -> Target
             up,
         } => Target { low: low, up: up },
         Constructor::Layered { top: _, others: _ } => Target {
-            low: -2147483648,
-            up: 2147483647,
+            low: LEAST,
+            up: GREATEST,
         },
     }
 }
@@ -228,7 +230,9 @@ fn is_sound(c: Constructor) -> bool
             & arith::at_most(low, up)
             & arith::at_most(up, hi)
             & (0 < step),
-        Constructor::Layered { top, others } => (0 < top) & (top <= 15) & (others <= top),
+        Constructor::Layered { top, others } => (0 < top)
+            & (top <= limits::MAX_LAYER)
+            & (others <= top),
     }
 }
 
@@ -239,7 +243,7 @@ pub fn number(c: Constructor) -> u8
     if !is_sound(c) {
         return 6;
     }
-    if 65535 < max_level(c) {
+    if limits::GREATEST_LEVEL < max_level(c) {
         return 7;
     }
     0

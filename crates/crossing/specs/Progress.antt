@@ -5,6 +5,7 @@ use mathlib.Core.List.{List}
 use mathlib.Core.Path.{_≡_}
 use lib.Dec.{leb}
 use lib.ListN.{length}
+use Rattle.limits.specs.Limits.{maxNodes}
 use Rattle.nodes.specs.Steps.{updated, enteredByte}
 
 -- crossing the edges that lead to `targets`, with `made` crossings behind: whether the budget is enough, and if so the count and the bytes
@@ -22,6 +23,6 @@ pub record Split (n span w : ℕ) : Type 0 where
 
 -- the block of w nodes at a, among n nodes: if it is not the last, another of w nodes stands after it
 pub record BlockAt (n a w : ℕ) : Type 0 where
-  pub few : n ≤ 32768
+  pub few : n ≤ maxNodes
   pub ends : a + w ≤ n
   pub next : a + w < n → a + w + w ≤ n

@@ -6,6 +6,7 @@ ghost use mathlib.Core.List.{map};
 ghost use lib.ListN.{length, getD, drop};
 ghost use mathlib.Core.Bool.{false, cond};
 ghost use lib.Dec.{eqb};
+ghost use Rattle.limits.specs.Limits.{maxNodes};
 ghost use Rattle.nodes.specs.Steps.{firstReached, stretch, partEdges, stageEdges, onwardEdges, rowEdges, updated, enteredByte};
 ghost use Rattle.crossing.specs.Progress.{Crosses, Split, BlockAt};
 
@@ -133,7 +134,7 @@ fn one_if_reached(b: u8) -> u32
 
 // How many nodes are reached, and so how many edges lead from them to the nodes w further on.
 fn count_reached(nodes: &[u8]) -> u32
-    requires { ⌜ length (now nodes) ≤ 32768 ⌝ }
+    requires { ⌜ length (now nodes) ≤ maxNodes ⌝ }
     ensures { λ r. ⌜ ((w : ℕ) → r ≡ length (stageEdges w (now (nodes .entry)) (length (now (nodes .entry))))) ⌝ }
 {
     let mut n: u32 = 0;
@@ -171,7 +172,7 @@ fn enter_next(nodes: &mut [u8], f: usize, w: usize)
 
 // Crosses the edges from the first w nodes to the w nodes after them, if the budget is enough.
 fn cross_stage(nodes: &mut [u8], w: usize, made: u32, budget: u32) -> Progress
-    requires { ⌜ (w ≤ 32768) × (w + w ≤ length (now nodes)) ⌝ }
+    requires { ⌜ (w ≤ maxNodes) × (w + w ≤ length (now nodes)) ⌝ }
     requires { ⌜ made ≤ budget ⌝ }
     ensures { λ r. ⌜ Crosses (stageEdges w (now (nodes .entry)) w) made budget (now (nodes .entry)) (now (nodes .exit)) (r .ok) (r .made) ⌝ }
 {

@@ -4,6 +4,7 @@ use Prim.Native.Nat.{ℕ, _<_, _≤_}
 use mathlib.Core.Bool.{Bool, not, _&&_, cond}
 use mathlib.Core.List.{List, [], _∷_}
 use lib.Dec.{eqb}
+use Rattle.limits.specs.Limits.{maxRuns}
 use Rattle.laws.specs.First.{firstAt}
 use Rattle.laws.specs.Lists.{anyOf}
 use Rattle.runs.specs.Log.{Log, rowCount}
@@ -25,7 +26,7 @@ firstDominator l log row = firstAt (bestDominates l log row) (rowCount (log .val
 pub record Accepted (l : PreferenceList) (log : Log) (row : ℕ) : Type 0 where
   pub list : listNumber l ≡ 0
   pub values : rowsNumber l (log .values) ≡ 0
-  pub few : rowCount (log .values) ≤ 1024
+  pub few : rowCount (log .values) ≤ maxRuns
   pub is-row : row < rowCount (log .values)
 
 -- ---- the search in a table and a list of its rows

@@ -6,6 +6,20 @@ use Rattle.format.specs.declared.Class.{Class}
 use Rattle.format.specs.declared.Class.the-variants.{Unknown, PreferenceRecord, NamedRecord, RunRecord}
 use Rattle.format.specs.declared.Kind.{Kind}
 
+-- "07 RUN | eight values | 32"
+abbrev pub runBody : ℕ
+runBody = 32
+
+-- the bytes of a run's record, and of the longest record of a wish and of a named value: the kind and the body
+abbrev pub runRecord : ℕ
+runRecord = 33
+
+abbrev pub wishRecord : ℕ
+wishRecord = 22
+
+abbrev pub namedRecord : ℕ
+namedRecord = 6
+
 abbrev pub kind : Class → ℕ → Kind
 kind class body = record { class = class; body = body }
 
@@ -25,7 +39,7 @@ kinds =
     -- 06 NAMED
     kind NamedRecord 5 ∷
     -- 07 RUN
-    kind RunRecord 32 ∷
+    kind RunRecord runBody ∷
     []
 
 unfoldable pub kindOf : ℕ → Kind

@@ -6,6 +6,7 @@ use lib.ListN.{length, getD, drop, set, replicate}
 use lib.Seq.{sets}
 use lib.Dec.{ltb, leb, eqb}
 use lib.IntN.{ℤ}
+use Rattle.limits.specs.Limits.{columns, maxRuns, maxWishes, maxNamed}
 use Rattle.word.specs.Word.{wordAt, intAt}
 use Rattle.laws.specs.Checks.{_gives_, _then_}
 use Rattle.constructor.specs.Level.{layeringOf}
@@ -68,14 +69,14 @@ outOfPlace RunRecord r = eqb (r .list .count) 0
 
 -- 6 for the layer of a named value, 7 for the 65th
 unfoldable pub namingNumber : PreferenceList → ℕ → ℕ
-namingNumber l layer = layerNumber (lastConstructor l) layer then leb 64 (l .namings) gives 7
+namingNumber l layer = layerNumber (lastConstructor l) layer then leb maxNamed (l .namings) gives 7
 
 -- 5, 6, 7 of a wish; 6, 7 of a named value; 7 for the 1,025th run
 unfoldable pub figuresNumber : Class → ReadAnswer → List ℕ → ℕ
 figuresNumber Unknown r bs = 0
 figuresNumber PreferenceRecord r bs = preferenceNumber (r .list) (r .list .count) (preferenceOf bs)
 figuresNumber NamedRecord r bs = namingNumber (r .list) (getD bs 5 0)
-figuresNumber RunRecord r bs = leb 1024 (r .rows) gives 7
+figuresNumber RunRecord r bs = leb maxRuns (r .rows) gives 7
 
 abbrev pub isUnknown : Class → Bool
 isUnknown Unknown = true
@@ -95,7 +96,7 @@ recordNumber r bs =
 
 -- "After reading, places past the counts are zero"
 abbrev pub zeroList : PreferenceList
-zeroList = record { count = 0; preferences = replicate 8 zeroPreference; namings = 0; named = replicate 64 zeroNamed }
+zeroList = record { count = 0; preferences = replicate maxWishes zeroPreference; namings = 0; named = replicate maxNamed zeroNamed }
 
 abbrev pub addPreference : PreferenceList → Preference → PreferenceList
 addPreference l p = record { count = l .count + 1; preferences = set (l .preferences) (l .count) p; namings = l .namings; named = l .named }
@@ -157,7 +158,7 @@ records s = steps (length s) s start
 
 -- "then 1; then 10, here only for a lent log shorter than the runs"
 unfoldable pub endNumber : ReadAnswer → ℕ → ℕ
-endNumber r room = eqb (r .list .count) 0 gives 1 then ltb room (8 * r .rows) gives 10
+endNumber r room = eqb (r .list .count) 0 gives 1 then ltb room (columns * r .rows) gives 10
 
 -- what was read of a stream of so many bytes, with a lent log of so many numbers
 unfoldable pub finish : ReadAnswer → ℕ → ℕ → ReadAnswer

@@ -12,6 +12,7 @@ ghost use lib.IntN.{pos};
 ghost use lib.ListN.{getD, length};
 ghost use lib.Dec.{eqb};
 ghost use mathlib.Core.Bool.{not, cond};
+ghost use Rattle.limits.specs.Limits.{maxNamed};
 ghost use Rattle.constructor.specs.Level.{inside};
 ghost use Rattle.laws.specs.Checks.{_gives_};
 ghost use Rattle.laws.specs.Outcome.{outcome};
@@ -26,12 +27,16 @@ fn held_names(list: PreferenceList) -> usize
     ensures { λ r. ⌜ r ≡ names list ⌝ }
 {
     let n = list.namings;
-    if n <= 64 { n as usize } else { 64 }
+    if n <= preference::MAX_NAMINGS {
+        n as usize
+    } else {
+        limits::MAX_NAMED
+    }
 }
 
 // The place after m where owner is i: a named value of the preference at place i is kept, and any other is written over.
 fn place_after(m: usize, owner: usize, i: usize) -> usize
-    requires { ⌜ m < 64 ⌝ }
+    requires { ⌜ m < maxNamed ⌝ }
     ensures { λ r. ⌜ r ≡ cond (eqb owner i) (m + 1) m ⌝ }
 {
     if owner == i { m + 1 } else { m }
@@ -42,8 +47,8 @@ pub fn names_of(list: PreferenceList, i: usize) -> Names
     ensures { λ r. ⌜ NamesOf list i r ⌝ }
 {
     let n = held_names(list);
-    let mut values = [0i32; 64];
-    let mut layers = [0u8; 64];
+    let mut values = [0i32; limits::MAX_NAMED];
+    let mut layers = [0u8; limits::MAX_NAMED];
     let mut m: usize = 0;
     let mut k: usize = 0;
     while k < n {
@@ -100,7 +105,7 @@ fn layer_of(list: PreferenceList, i: usize, v: i32, others: u8) -> u8
 fn constructor_at(list: PreferenceList, i: usize) -> Constructor
     ensures { λ r. ⌜ r ≡ preferenceAt list i .constructor ⌝ }
 {
-    if 8 <= i {
+    if limits::MAX_WISHES <= i {
         return Constructor::Lowest {
             lo: 0,
             hi: 0,

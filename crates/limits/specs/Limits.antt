@@ -1,5 +1,5 @@
 -- The limits of document 01, each with its sentence. Code has them from src/lib.rt under the same names.
-use Prim.Native.Nat.{ℕ, _+_, _*_}
+use Prim.Native.Nat.{ℕ, _+_, _*_, _^_}
 
 -- "A run is eight signed 32-bit numbers, columns 0 to 7"
 abbrev pub columns : ℕ
@@ -26,12 +26,12 @@ abbrev pub maxLayer : ℕ
 maxLayer = 15
 
 -- 7: "M above 65,535"
-abbrev pub maxLevel : ℕ
-maxLevel = 65535
+abbrev pub greatestLevel : ℕ
+greatestLevel = 65535
 
 -- how many levels there are up to the greatest
 abbrev pub levelCount : ℕ
-levelCount = maxLevel + 1
+levelCount = greatestLevel + 1
 
 -- 9: "more than 32,768 nodes"
 abbrev pub maxNodes : ℕ
@@ -56,3 +56,11 @@ programWindow = 64
 -- how many bytes the longest accepted stream has (roundtrip/specs/Theorems.antt)
 abbrev pub maxStreamBytes : ℕ
 maxStreamBytes = 34334
+
+-- a number of 32 bits is below this
+abbrev pub u32End : ℕ
+u32End = 2 ^ 32
+
+-- a place in memory is below this: it has 64 bits
+abbrev pub usizeEnd : ℕ
+usizeEnd = 2 ^ 64

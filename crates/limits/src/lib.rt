@@ -17,10 +17,10 @@ pub const MAX_NAMED: usize = 64;
 pub const MAX_LAYER: u8 = 15;
 
 // The greatest level of an accepted wish.
-pub const MAX_LEVEL: u64 = 65535;
+pub const GREATEST_LEVEL: u64 = 65535;
 
 // How many levels there are up to the greatest: a level table holds its levels modulo this.
-pub const LEVEL_COUNT: u64 = MAX_LEVEL + 1;
+pub const LEVEL_COUNT: u64 = GREATEST_LEVEL + 1;
 
 pub const MAX_NODES: usize = 32768;
 

@@ -4,28 +4,29 @@ use mathlib.Core.Path.{_≡_}
 use mathlib.Core.Bool.{Bool}
 use mathlib.Core.List.{List}
 use lib.ListN.{getD, length}
+use Rattle.limits.specs.Limits.{maxRuns, maxWindow, u32End}
 use Rattle.machine.specs.Order.{Ordered}
 use Rattle.machine.specs.Machine.{pass, passes}
-use Rattle.window.specs.Work.{entries, stateOf, stateAt}
+use Rattle.window.specs.Work.{clockEnd, countEnd, entries, stateOf, stateAt}
 use Rattle.window.specs.declared.Standing.{Standing}
 
 -- rows that can wait behind a window of w entries: their numbers fit 32 bits, and there is room for them
 pub record Waits (w : ℕ) (rows : List ℕ) (size : ℕ) : Type 0 where
-  pub narrow : w ≤ 1024
-  pub few : length rows ≤ 1024
-  pub small : (i : ℕ) → i < length rows → getD rows i 0 < 4294967296
+  pub narrow : w ≤ maxWindow
+  pub few : length rows ≤ maxRuns
+  pub small : (i : ℕ) → i < length rows → getD rows i 0 < u32End
   pub room : 2 * (w + length rows) ≤ size
 
 -- a pass over the n entries that wait may begin
 pub record PassReady (w n size flags : ℕ) (p : Standing) : Type 0 where
-  pub narrow : w ≤ 1024
+  pub narrow : w ≤ maxWindow
   pub flagged : w ≤ flags
-  pub rows : n ≤ 1024
+  pub rows : n ≤ maxRuns
   pub fit : p .held ≤ w
   pub none : p .overflow ≡ 0
   pub room : 2 * (w + n) ≤ size
-  pub early : p .clock + n < 2000000000
-  pub small : p .count + 1024 * n < 1000000000000000
+  pub early : p .clock + n < clockEnd
+  pub small : p .count + maxWindow * n < countEnd
 
 -- the n entries that waited were read
 pub record Passed (dom : ℕ → ℕ → Bool) (w n : ℕ) (l m : List ℕ) (p : Standing) (l′ m′ : List ℕ) (p′ : Standing) : Type 0 where
@@ -34,14 +35,14 @@ pub record Passed (dom : ℕ → ℕ → Bool) (w n : ℕ) (l m : List ℕ) (p :
   pub ordered : Ordered (stateAt w l′ m′ p′)
   pub few : p′ .overflow ≤ n
   pub ticks : p′ .clock ≡ p .clock + n
-  pub small : p′ .count ≤ p .count + 1024 * n
+  pub small : p′ .count ≤ p .count + maxWindow * n
 
 -- the passes may begin
 pub record RunReady (w n fuel size flags : ℕ) : Type 0 where
-  pub narrow : w ≤ 1024
+  pub narrow : w ≤ maxWindow
   pub flagged : w ≤ flags
-  pub rows : n ≤ 1024
-  pub turns : fuel ≤ 1048577
+  pub rows : n ≤ maxRuns
+  pub turns : fuel ≤ maxRuns * maxRuns + 1
   pub room : 2 * (w + n) ≤ size
 
 -- the passes were made, from a standing of zeros

@@ -5,6 +5,7 @@ ghost use mathlib.Core.Path.{_≡_};
 ghost use Prim.Native.Nat.{ℕ, _+_, _*_, _≤_};
 ghost use mathlib.Core.List.{map};
 ghost use lib.ListN.{length};
+ghost use Rattle.limits.specs.Limits.{maxWindow};
 ghost use Rattle.machine.specs.Machine.{marked, unread, machine};
 ghost use Rattle.machine.specs.Order.{Ordered};
 ghost use Rattle.window.specs.Work.{tableDominates, entries, stateAt};
@@ -36,7 +37,7 @@ fn one_pass(
 
 // Releases the whole window.
 fn release_all(work: &[u32], held: usize, marks: &mut [u8])
-    requires { ⌜ held ≤ 1024 ⌝ }
+    requires { ⌜ held ≤ maxWindow ⌝ }
     ensures { λ _. ⌜ now (marks .exit) ≡ marked (entries (now (work .entry)) 0 held) (now (marks .entry)) ⌝ }
 {
     let mut i: usize = 0;
@@ -115,6 +116,6 @@ pub fn run_rows(
     word::clear(marks);
     fill_waiting(work, w, rows);
     let n = rows.len();
-    let mut flags = [0u8; 1024];
+    let mut flags = [0u8; limits::MAX_WINDOW as usize];
     all_passes(table, w, n, n * n + 1, work, marks, &mut flags)
 }

@@ -2,6 +2,7 @@
 use Prim.Native.Nat.{ℕ, min}
 use lib.IntN.{pos}
 use lib.ListN.{getD}
+use Rattle.limits.specs.Limits.{maxWishes, maxNamed}
 use Rattle.constructor.specs.declared.Constructor.{Constructor}
 use Rattle.constructor.specs.declared.Constructor.the-variants.{Lowest}
 use Rattle.preference.specs.declared.Preference.{Preference}
@@ -27,7 +28,7 @@ namedAt l k = getD (l .named) k zeroNamed
 
 -- how many preferences and named values the list holds, whatever it counts
 abbrev pub places : PreferenceList → ℕ
-places l = min (l .count) 8
+places l = min (l .count) maxWishes
 
 abbrev pub names : PreferenceList → ℕ
-names l = min (l .namings) 64
+names l = min (l .namings) maxNamed

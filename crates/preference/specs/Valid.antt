@@ -3,6 +3,7 @@
 use Prim.Native.Nat.{ℕ, _-_, min}
 use mathlib.Core.Bool.{Bool, _||_}
 use lib.Dec.{leb, ltb, eqb}
+use Rattle.limits.specs.Limits.{maxWishes, maxNamed}
 use Rattle.laws.specs.Checks.{_gives_, _then_}
 use Rattle.laws.specs.First.{anyBelow, firstNumber}
 use Rattle.constructor.specs.Valid.{constructorNumber, layerNumber}
@@ -19,7 +20,7 @@ taken l n column = anyBelow (hasColumn l column) n
 
 -- 5: "column above 7 or taken" before place n
 unfoldable pub columnNumber : PreferenceList → ℕ → ℕ → ℕ
-columnNumber l n column = ltb 7 column gives 5 then taken l (min n 8) column gives 5
+columnNumber l n column = ltb 7 column gives 5 then taken l (min n maxWishes) column gives 5
 
 -- a preference at place n: 5, then 6, then 7
 unfoldable pub preferenceNumber : PreferenceList → ℕ → Preference → ℕ
@@ -38,7 +39,7 @@ namedNumber l k =
 -- 1: "no wish, or a count above 8"; 7: "a 65th named value"
 unfoldable pub listNumber : PreferenceList → ℕ
 listNumber l =
-    eqb (l .count) 0 || ltb 8 (l .count) gives 1 then
-    ltb 64 (l .namings) gives 7 then
+    eqb (l .count) 0 || ltb maxWishes (l .count) gives 1 then
+    ltb maxNamed (l .namings) gives 7 then
     firstNumber (placeNumber l) (l .count) then
     firstNumber (namedNumber l) (l .namings)

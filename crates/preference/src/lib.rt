@@ -2,6 +2,7 @@
 use constructor::Constructor;
 ghost use mathlib.Core.Path.{_≡_};
 ghost use Prim.Native.Nat.{_-_, _<_, _≤_, min};
+ghost use Rattle.limits.specs.Limits.{maxWishes, maxNamed};
 ghost use Rattle.laws.specs.Checks.{_then_};
 ghost use Rattle.laws.specs.First.{firstNumber};
 ghost use Rattle.preference.specs.Valid.{taken, columnNumber, preferenceNumber, placeNumber, namedNumber, listNumber};
@@ -23,10 +24,15 @@ pub struct Named {
 // The fields are wide enough to hold figures that are refused.
 pub struct PreferenceList {
     pub count: u32,
-    pub preferences: [Preference; 8],
+    pub preferences: [Preference; limits::MAX_WISHES],
     pub namings: u32,
-    pub named: [Named; 64],
+    pub named: [Named; limits::MAX_NAMED],
 }
+
+// The greatest counts of an accepted list, as its fields have them.
+pub const MAX_COUNT: u32 = limits::MAX_WISHES as u32;
+
+pub const MAX_NAMINGS: u32 = limits::MAX_NAMED as u32;
 
 // The level of a value, or the number that the call is refused by.
 pub enum LevelAnswer {
@@ -37,8 +43,8 @@ pub enum LevelAnswer {
 // The named values of one preference, in the list's order: the first `count` places.
 pub struct Names {
     pub count: usize,
-    pub values: [i32; 64],
-    pub layers: [u8; 64],
+    pub values: [i32; limits::MAX_NAMED],
+    pub layers: [u8; limits::MAX_NAMED],
 }
 
 // Where a part of the level vectors is found: the place of its preference, and which of the preference's parts it is.
@@ -56,14 +62,18 @@ fn first_of(a: u8, b: u8) -> u8
 
 // How many of n places the list holds.
 pub fn at_most_8(n: usize) -> usize
-    ensures { λ r. ⌜ r ≡ min n 8 ⌝ }
+    ensures { λ r. ⌜ r ≡ min n maxWishes ⌝ }
 {
-    if n <= 8 { n } else { 8 }
+    if n <= limits::MAX_WISHES {
+        n
+    } else {
+        limits::MAX_WISHES
+    }
 }
 
 // Whether one of the first n preferences has the column.
 fn column_taken(list: PreferenceList, n: usize, column: u8) -> bool
-    requires { ⌜ n ≤ 8 ⌝ }
+    requires { ⌜ n ≤ maxWishes ⌝ }
     ensures { λ r. ⌜ r ≡ taken list n column ⌝ }
 {
     let mut j: usize = 0;
@@ -102,7 +112,7 @@ pub fn preference_number(list: PreferenceList, n: usize, p: Preference) -> u8
 }
 
 fn place_number(list: PreferenceList, i: usize) -> u8
-    requires { ⌜ i < 8 ⌝ }
+    requires { ⌜ i < maxWishes ⌝ }
     ensures { λ r. ⌜ r ≡ placeNumber list i ⌝ }
 {
     let p = list.preferences[i];
@@ -111,7 +121,7 @@ fn place_number(list: PreferenceList, i: usize) -> u8
 
 // The first number of the first n preferences.
 fn places_number(list: PreferenceList, n: usize) -> u8
-    requires { ⌜ n ≤ 8 ⌝ }
+    requires { ⌜ n ≤ maxWishes ⌝ }
     ensures { λ r. ⌜ r ≡ firstNumber (placeNumber list) n ⌝ }
 {
     let mut i: usize = 0;
@@ -134,7 +144,7 @@ pub fn place_before(k: usize) -> usize
 
 // The named value at place k: 3 for no such preference or one before the last named value's, then its layer's number.
 fn named_number(list: PreferenceList, k: usize) -> u8
-    requires { ⌜ (list .count ≤ 8) × (k < 64) ⌝ }
+    requires { ⌜ (list .count ≤ maxWishes) × (k < maxNamed) ⌝ }
     ensures { λ r. ⌜ r ≡ namedNumber list k ⌝ }
 {
     let e = list.named[k];
@@ -157,7 +167,7 @@ fn named_number(list: PreferenceList, k: usize) -> u8
 
 // The first number of the first n named values.
 fn all_named_number(list: PreferenceList, n: usize) -> u8
-    requires { ⌜ (list .count ≤ 8) × (n ≤ 64) ⌝ }
+    requires { ⌜ (list .count ≤ maxWishes) × (n ≤ maxNamed) ⌝ }
     ensures { λ r. ⌜ r ≡ firstNumber (namedNumber list) n ⌝ }
 {
     let mut i: usize = 0;
@@ -177,10 +187,10 @@ pub fn number(list: PreferenceList) -> u8
 {
     let count = list.count;
     let namings = list.namings;
-    if (count == 0) | (8 < count) {
+    if (count == 0) | (MAX_COUNT < count) {
         return 1;
     }
-    if 64 < namings {
+    if MAX_NAMINGS < namings {
         return 7;
     }
     let k = places_number(list, count as usize);

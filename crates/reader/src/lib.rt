@@ -14,6 +14,8 @@ ghost use mathlib.Core.Path.{_≡_};
 ghost use Prim.Native.Nat.{_+_, _<_, _≤_};
 ghost use lib.ListN.{length, getD};
 ghost use lib.Seq.{sets};
+ghost use Rattle.limits.specs.Limits.{maxRuns};
+ghost use Rattle.format.specs.Kinds.{runRecord};
 ghost use Rattle.format.specs.Read.{zeroList, refusedAt, goes, step, records, finish, readOf, valuesOf, logAfter};
 ghost use Rattle.format.specs.Midway.{Columns, toRead, Midway};
 
@@ -37,7 +39,7 @@ fn zero_list() -> PreferenceList
         count: 0,
         preferences: [p; 8],
         namings: 0,
-        named: [e; 64],
+        named: [e; limits::MAX_NAMED],
     }
 }
 
@@ -79,19 +81,22 @@ fn step_on(s: &[u8], r: ReadAnswer) -> ReadAnswer
     }
 }
 
+// The bytes of a run's record: its kind and its body.
+const RUN_RECORD: usize = 1 + stream_record_reader::kinds::RUN_BODY;
+
 // Whether a whole run stands at a place, with room for it after so many rows.
 fn run_stands(s: &[u8], at: usize, rows: usize) -> bool
     ensures { λ r. ⌜
-        (r ≡ true → (getD (now (s .entry)) at 0 ≡ 7) × (at + 33 ≤ length (now (s .entry))) × (rows < 1024)) ⌝ }
+        (r ≡ true → (getD (now (s .entry)) at 0 ≡ 7) × (at + runRecord ≤ length (now (s .entry))) × (rows < maxRuns)) ⌝ }
 {
     let n = s.len();
-    if n < 33 {
+    if n < RUN_RECORD {
         return false;
     }
-    if n - 33 < at {
+    if n - RUN_RECORD < at {
         return false;
     }
-    (s[at] == 7) & (rows < 1024)
+    (s[at] == 7) & (rows < limits::MAX_RUNS)
 }
 
 // Runs change the place and the rows alone: the list is not carried over each of those that stand here.
@@ -109,7 +114,7 @@ fn over_runs(s: &[u8], r: ReadAnswer) -> ReadAnswer
     let mut place = r.place;
     let mut rows = r.rows;
     while run_stands(s, place, rows) {
-        place += 33;
+        place += RUN_RECORD;
         rows += 1;
     }
     ReadAnswer {

@@ -55,7 +55,11 @@ fn naming_number(list: PreferenceList, layer: u8) -> u8
     if n != 0 {
         return n;
     }
-    if 64 <= list.namings { 7 } else { 0 }
+    if preference::MAX_NAMINGS <= list.namings {
+        7
+    } else {
+        0
+    }
 }
 
 // The number of a whole record in its place: 5, 6, 7, or 0.
@@ -71,7 +75,7 @@ fn figures_number(class: Class, r: ReadAnswer, t: &[u8]) -> u8
             figures::preference_of(t),
         ),
         Class::NamedRecord => naming_number(r.list, word::get_u8(t, 5)),
-        Class::RunRecord => if 1024 <= r.rows { 7 } else { 0 },
+        Class::RunRecord => if limits::MAX_RUNS <= r.rows { 7 } else { 0 },
     }
 }
 

@@ -6,19 +6,31 @@ use preference::Preference;
 use preference::PreferenceList;
 ghost use mathlib.Core.Path.{_≡_};
 ghost use Prim.Native.Nat.{_-_, _<_, _≤_};
+ghost use Rattle.limits.specs.Limits.{maxRuns, maxWishes, maxNamed};
 ghost use Rattle.format.specs.Read.{constructorOf, preferenceOf, namedOf};
 ghost use Rattle.format.specs.Read.{addPreference, addNamed, listAfter, rowsAfter};
 ghost use Rattle.format.specs.declared.Class.the-variants.{PreferenceRecord, NamedRecord, RunRecord};
+
+// Where the figures of a form with bounds stand; z stands where low does.
+const LO: usize = 2;
+
+const HI: usize = 6;
+
+const STEP: usize = 10;
+
+const LOW: usize = 14;
+
+const UP: usize = 18;
 
 // What stands past the record's own figures is read too, and not used.
 fn constructor_of(k: u8, t: &[u8]) -> Constructor
     ensures { λ r. ⌜ r ≡ constructorOf k (now (t .entry)) ⌝ }
 {
-    let lo = word::get_i32(t, 2);
-    let hi = word::get_i32(t, 6);
-    let step = word::get_u32(t, 10);
-    let low = word::get_i32(t, 14);
-    let up = word::get_i32(t, 18);
+    let lo = word::get_i32(t, LO);
+    let hi = word::get_i32(t, HI);
+    let step = word::get_u32(t, STEP);
+    let low = word::get_i32(t, LOW);
+    let up = word::get_i32(t, UP);
     match k {
         1 => Constructor::Lowest { lo, hi, step },
         2 => Constructor::Highest { lo, hi, step },
@@ -67,7 +79,7 @@ fn with_preference(list: PreferenceList, p: Preference) -> PreferenceList
 
 // The named value that t begins with belongs to the last preference.
 fn with_named(list: PreferenceList, t: &[u8]) -> PreferenceList
-    requires { ⌜ (list .count ≤ 8) × (list .namings < 64) ⌝ }
+    requires { ⌜ (list .count ≤ maxWishes) × (list .namings < maxNamed) ⌝ }
     ensures { λ r. ⌜ r ≡ addNamed list (namedOf (list .count - 1) (now (t .entry))) ⌝ }
 {
     let n = list.namings;
@@ -88,7 +100,7 @@ fn with_named(list: PreferenceList, t: &[u8]) -> PreferenceList
 pub fn list_after(class: Class, list: PreferenceList, t: &[u8]) -> PreferenceList
     requires { ⌜
         (class ≡ PreferenceRecord → list .count < 8)
-        × (class ≡ NamedRecord → (list .count ≤ 8) × (list .namings < 64)) ⌝ }
+        × (class ≡ NamedRecord → (list .count ≤ maxWishes) × (list .namings < maxNamed)) ⌝ }
     ensures { λ r. ⌜ r ≡ listAfter class list (now (t .entry)) ⌝ }
 {
     match class {
@@ -100,7 +112,7 @@ pub fn list_after(class: Class, list: PreferenceList, t: &[u8]) -> PreferenceLis
 }
 
 pub fn rows_after(class: Class, rows: usize) -> usize
-    requires { ⌜ (class ≡ RunRecord → rows < 1024) ⌝ }
+    requires { ⌜ (class ≡ RunRecord → rows < maxRuns) ⌝ }
     ensures { λ r. ⌜ r ≡ rowsAfter class rows ⌝ }
 {
     match class {

@@ -2,7 +2,7 @@
 use format::Class;
 ghost use mathlib.Core.Path.{_≡_};
 ghost use Prim.Native.Nat.{_≤_};
-ghost use Rattle.format.specs.Kinds.{classOf, bodyOf};
+ghost use Rattle.format.specs.Kinds.{runBody, classOf, bodyOf};
 ghost use Rattle.format.specs.Read.{isUnknown};
 
 // What the record that t begins with says, by its kind byte.
@@ -18,18 +18,25 @@ pub fn class_of(t: &[u8]) -> Class
     }
 }
 
-// The bytes of its body, at most 32.
+// The bytes of the longer bodies.
+const AROUND_BODY: usize = 17;
+
+const BETWEEN_BODY: usize = 21;
+
+pub const RUN_BODY: usize = 32;
+
+// The bytes of its body, at most those of a run.
 pub fn body_of(t: &[u8]) -> usize
-    ensures { λ r. ⌜ (r ≡ bodyOf (now (t .entry))) × (r ≤ 32) ⌝ }
+    ensures { λ r. ⌜ (r ≡ bodyOf (now (t .entry))) × (r ≤ runBody) ⌝ }
 {
     let k = word::get_u8(t, 0);
     match k {
         1 | 2 => 13,
-        3 => 17,
-        4 => 21,
+        3 => AROUND_BODY,
+        4 => BETWEEN_BODY,
         5 => 3,
         6 => 5,
-        7 => 32,
+        7 => RUN_BODY,
         _ => 0,
     }
 }

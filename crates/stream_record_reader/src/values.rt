@@ -6,7 +6,7 @@ ghost use Prim.Native.Nat.{_+_, _<_, _≤_};
 ghost use lib.ListN.{length};
 ghost use lib.Seq.{sets};
 ghost use Rattle.word.specs.Word.{intAt};
-ghost use Rattle.format.specs.Kinds.{classOf, bodyOf};
+ghost use Rattle.format.specs.Kinds.{runBody, classOf, bodyOf};
 ghost use Rattle.format.specs.Read.{intsAt, valuesUnder};
 
 // The signed number at a place that has its four bytes.
@@ -19,7 +19,7 @@ fn whole_i32(t: &[u8], at: usize) -> i32
 
 // Stores the eight values of the whole run that t begins with, where there is room for them.
 fn put_run(t: &[u8], log: &mut [i32], to: usize)
-    requires { ⌜ (32 < length (now t)) × (to + 8 ≤ length (now log)) ⌝ }
+    requires { ⌜ (runBody < length (now t)) × (to + 8 ≤ length (now log)) ⌝ }
     ensures { λ r. ⌜ now (log .exit) ≡ sets (now (log .entry)) to (intsAt 8 (now (t .entry)) 1) ⌝ }
 {
     let mut i: usize = 0;

@@ -5,14 +5,16 @@ use preference::Named;
 use preference::Preference;
 ghost use mathlib.Core.Path.{_≡_};
 ghost use mathlib.Core.List.{_++_};
-ghost use Prim.Native.Nat.{_+_, _*_, _<_, _^_};
+ghost use Prim.Native.Nat.{_+_, _*_, _<_};
 ghost use lib.ListN.{length};
+ghost use Rattle.limits.specs.Limits.{usizeEnd};
+ghost use Rattle.format.specs.Kinds.{wishRecord, namedRecord};
 ghost use Rattle.word.specs.Word.{wordBytes, intBytes};
 ghost use Rattle.word.specs.Puts.{Puts};
 ghost use Rattle.format.specs.Write.{kindFor, constructorBytes, preferenceBytes, namedBytes, intsBytes, runBytes};
 
 fn put_range(out: &mut [u8], at: usize, lo: i32, hi: i32, step: u32) -> usize
-    requires { ⌜ at + 12 < 2 ^ 64 ⌝ }
+    requires { ⌜ at + 12 < usizeEnd ⌝ }
     ensures { λ r. ⌜ Puts (now (out .entry)) (now (out .exit)) at r (intBytes lo ++ intBytes hi ++ wordBytes step) ⌝ }
 {
     word::put_i32(out, at, lo);
@@ -22,7 +24,7 @@ fn put_range(out: &mut [u8], at: usize, lo: i32, hi: i32, step: u32) -> usize
 }
 
 fn put_constructor(out: &mut [u8], at: usize, c: Constructor) -> usize
-    requires { ⌜ at + 20 < 2 ^ 64 ⌝ }
+    requires { ⌜ at + wishRecord < usizeEnd ⌝ }
     ensures { λ r. ⌜ Puts (now (out .entry)) (now (out .exit)) at r (constructorBytes c) ⌝ }
 {
     match c {
@@ -86,7 +88,7 @@ fn kind_for(c: Constructor) -> u8
 }
 
 pub fn put_preference(out: &mut [u8], at: usize, p: Preference) -> usize
-    requires { ⌜ at + 22 < 2 ^ 64 ⌝ }
+    requires { ⌜ at + (wishRecord + 2) < usizeEnd ⌝ }
     ensures { λ r. ⌜ Puts (now (out .entry)) (now (out .exit)) at r (preferenceBytes p) ⌝ }
 {
     let c = p.constructor;
@@ -96,7 +98,7 @@ pub fn put_preference(out: &mut [u8], at: usize, p: Preference) -> usize
 }
 
 pub fn put_named(out: &mut [u8], at: usize, e: Named) -> usize
-    requires { ⌜ at + 6 < 2 ^ 64 ⌝ }
+    requires { ⌜ at + namedRecord < usizeEnd ⌝ }
     ensures { λ r. ⌜ Puts (now (out .entry)) (now (out .exit)) at r (namedBytes e) ⌝ }
 {
     word::put_u8(out, at, 6);
@@ -107,7 +109,7 @@ pub fn put_named(out: &mut [u8], at: usize, e: Named) -> usize
 
 // The numbers of a row.
 fn put_ints(out: &mut [u8], at: usize, row: &[i32]) -> usize
-    requires { ⌜ at + 4 * length (now row) < 2 ^ 64 ⌝ }
+    requires { ⌜ at + 4 * length (now row) < usizeEnd ⌝ }
     ensures { λ r. ⌜ Puts (now (out .entry)) (now (out .exit)) at r (intsBytes (now (row .entry))) ⌝ }
 {
     let mut next = at;
@@ -121,7 +123,7 @@ fn put_ints(out: &mut [u8], at: usize, row: &[i32]) -> usize
 }
 
 pub fn put_run(out: &mut [u8], at: usize, row: &[i32]) -> usize
-    requires { ⌜ at + 1 + 4 * length (now row) < 2 ^ 64 ⌝ }
+    requires { ⌜ at + 1 + 4 * length (now row) < usizeEnd ⌝ }
     ensures { λ r. ⌜ Puts (now (out .entry)) (now (out .exit)) at r (runBytes (now (row .entry))) ⌝ }
 {
     word::put_u8(out, at, 7);

@@ -2,11 +2,12 @@
 use Prim.Native.Nat.{ℕ, _-_}
 use mathlib.Core.List.{List}
 use lib.ListN.{take}
+use Rattle.limits.specs.Limits.{u32End}
 use Rattle.word.specs.Puts.{Puts}
 
--- the place that no text goes past: 2 ^ 32
+-- the place that no text goes past
 abbrev pub textEnd : ℕ
-textEnd = 4294967296
+textEnd = u32End
 
 -- what of a text at a place stands before that end
 unfoldable pub within : ℕ → List ℕ → List ℕ

@@ -3,12 +3,13 @@ use Prim.Native.Nat.{ℕ, zero, _<_, _≤_}
 use mathlib.Core.List.{List}
 use mathlib.Core.Path.{_≡_}
 use lib.ListN.{length, getD}
+use Rattle.limits.specs.Limits.{maxNodes}
 use Rattle.nodes.specs.Steps.{Weights, firstReached}
 
 -- a lattice that the engine takes: the weights of its parts, and its nodes
 pub record Small (weights : List ℕ) (n : ℕ) : Type 0 where
   pub lattice : Weights weights n
-  pub nodes : n ≤ 32768
+  pub nodes : n ≤ maxNodes
 
 -- nodes of which the one at f, which is not the first, is the first that is reached; the blocks of the parts after the first are rows
 pub record Rows (weights nodes : List ℕ) (f : ℕ) : Type 0 where

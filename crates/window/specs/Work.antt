@@ -6,6 +6,7 @@ use mathlib.Core.Bool.{Bool, true, false, not}
 use mathlib.Core.List.{List, [], _∷_}
 use lib.Dec.{eqb}
 use lib.ListN.{getD, set, length}
+use Rattle.limits.specs.Limits.{maxRuns, maxWindow}
 use Rattle.pareto.specs.Table.{firstDominates, secondDominates, compared}
 use Rattle.machine.specs.Machine.{Entry, State, keep, marked, older, younger, dominated, compares, spares, judge, read}
 use Rattle.window.specs.declared.Front.{Front}
@@ -75,22 +76,29 @@ pub record Scanned (dom : ℕ → ℕ → Bool) (r : ℕ) (l : List ℕ) (n : �
   pub few : v .from ≤ n
   pub flags-are : v .dropped ≡ false → Flags (spares dom r) l (v .from) n flags
 
+-- the clock and the count stay below these, far from where their numbers end
+abbrev pub clockEnd : ℕ
+clockEnd = 2000000000
+
+abbrev pub countEnd : ℕ
+countEnd = 1000000000000000
+
 -- there is room for one more entry, and no number is near its end
 pub record Ready (w size flags : ℕ) (p : Standing) : Type 0 where
-  pub narrow : w ≤ 1024
+  pub narrow : w ≤ maxWindow
   pub flagged : w ≤ flags
   pub fit : p .held ≤ w
-  pub few : p .overflow ≤ 1023
+  pub few : p .overflow < maxRuns
   pub room : 2 * (w + p .overflow) + 1 < size
-  pub early : p .clock < 2000000000
-  pub small : p .count < 1000000000000000
+  pub early : p .clock < clockEnd
+  pub small : p .count < countEnd
 
 -- how far a standing has come by one read
 pub record Onward (w : ℕ) (l : List ℕ) (p : Standing) (l′ : List ℕ) (p′ : Standing) : Type 0 where
   pub fit : p′ .held ≤ w
   pub few : p′ .overflow ≤ p .overflow + 1
   pub ticks : p′ .clock ≡ p .clock + 1
-  pub small : p′ .count ≤ p .count + 1024
+  pub small : p′ .count ≤ p .count + maxWindow
   pub rest : (j : ℕ) → w + p .overflow + 1 ≤ j → entryAt l′ j ≡ entryAt l j
 
 -- row r was judged; the marks, any m, play no part

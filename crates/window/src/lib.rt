@@ -4,6 +4,7 @@ ghost use mathlib.Core.Path.{_≡_};
 ghost use Prim.Native.Nat.{ℕ, _+_, _*_, _<_, _≤_};
 ghost use mathlib.Core.Bool.{Bool};
 ghost use lib.ListN.{getD, set, length};
+ghost use Rattle.limits.specs.Limits.{maxWindow, maxWork};
 ghost use Rattle.pareto.specs.Table.{compared};
 ghost use Rattle.machine.specs.Machine.{Entry};
 ghost use Rattle.machine.specs.Order.{Rising};
@@ -26,7 +27,7 @@ fn store(work: &mut [u32], i: usize, n: u32)
 }
 
 pub fn put_entry(work: &mut [u32], i: usize, row: u32, timestamp: u32)
-    requires { ⌜ i ≤ 4096 ⌝ }
+    requires { ⌜ i ≤ maxWork ⌝ }
     ensures { λ _. ⌜ now (work .exit) ≡ putEntry (now (work .entry)) i row timestamp ⌝ }
 {
     store(work, 2 * i, row);
@@ -57,7 +58,7 @@ pub struct Verdict {
 
 // The row of an entry that the work list holds.
 fn entry_row(work: &[u32], at: usize) -> usize
-    requires { ⌜ (at ≤ 1024) × (2 * at < length (now work)) ⌝ }
+    requires { ⌜ (at ≤ maxWindow) × (2 * at < length (now work)) ⌝ }
     ensures { λ r. ⌜ r ≡ getD (now (work .entry)) (2 * at) 0 ⌝ }
 {
     work[2 * at] as usize
@@ -65,7 +66,7 @@ fn entry_row(work: &[u32], at: usize) -> usize
 
 // How an entry of the window and a row stand; behind the last they are apart.
 fn entry_compared(table: &[u16], work: &[u32], at: usize, held: usize, row: u32) -> u8
-    requires { ⌜ (held ≤ 1024) × (2 * held ≤ length (now work)) ⌝ }
+    requires { ⌜ (held ≤ maxWindow) × (2 * held ≤ length (now work)) ⌝ }
     ensures { λ k. ⌜ (at < held → k ≡ compared (now (table .entry)) (getD (now (work .entry)) (2 * at) 0) row) ⌝ }
 {
     if held <= at {
@@ -76,7 +77,7 @@ fn entry_compared(table: &[u16], work: &[u32], at: usize, held: usize, row: u32)
 
 // Most entries are apart from a row: a short loop of its own passes them.
 fn apart(table: &[u16], work: &[u32], held: usize, row: u32) -> Front
-    requires { ⌜ (held ≤ 1024) × (2 * held ≤ length (now work)) ⌝ }
+    requires { ⌜ (held ≤ maxWindow) × (2 * held ≤ length (now work)) ⌝ }
     ensures { λ f. ⌜ Fronted (now (table .entry)) row (now (work .entry)) held f ⌝ }
 {
     let mut left = held;
@@ -100,7 +101,7 @@ fn apart(table: &[u16], work: &[u32], held: usize, row: u32) -> Front
 // Compares a row with the window's entries, the oldest that is left first, until one dominates it. Behind the entries that are apart, each
 // compare is kept as a flag for `remove`.
 fn scan(table: &[u16], work: &[u32], held: usize, row: u32, flags: &mut [u8]) -> Verdict
-    requires { ⌜ (held ≤ 1024) × (2 * held ≤ length (now work)) × (held ≤ length (now flags)) ⌝ }
+    requires { ⌜ (held ≤ maxWindow) × (2 * held ≤ length (now work)) × (held ≤ length (now flags)) ⌝ }
     ensures { λ v. ⌜ Scanned (tableDominates (now (table .entry))) row (now (work .entry)) held (now (flags .exit)) v ⌝ }
 {
     let front = apart(table, work, held, row);
@@ -137,7 +138,7 @@ fn scan(table: &[u16], work: &[u32], held: usize, row: u32, flags: &mut [u8]) ->
 
 // Removes the entries that the row dominates by their flags, from one entry on; how many stay comes back.
 fn remove(flags: &[u8], work: &mut [u32], from: usize, held: usize) -> usize
-    requires { ⌜ (held ≤ 1024) × (from ≤ held) × (held ≤ length (now flags)) × (2 * held ≤ length (now work)) ⌝ }
+    requires { ⌜ (held ≤ maxWindow) × (from ≤ held) × (held ≤ length (now flags)) × (2 * held ≤ length (now work)) ⌝ }
     ensures { λ m. ⌜ ((p : Entry → Bool) → Flags p (now (work .entry)) from held (now (flags .entry)) → Filtered p (now (work .entry)) (now (work .exit)) held m) ⌝ }
 {
     let mut i = from;
@@ -156,7 +157,7 @@ fn remove(flags: &[u8], work: &mut [u32], from: usize, held: usize) -> usize
 
 // Releases the entries with a timestamp below s: their rows are marked. How many stay comes back. The first entry has the smallest timestamp.
 fn release(work: &mut [u32], held: usize, s: u32, marks: &mut [u8]) -> usize
-    requires { ⌜ (held ≤ 1024) × (2 * held ≤ length (now work)) × Rising (entries (now work) 0 held) ⌝ }
+    requires { ⌜ (held ≤ maxWindow) × (2 * held ≤ length (now work)) × Rising (entries (now work) 0 held) ⌝ }
     ensures { λ m. ⌜ Released s (now (work .entry)) (now (work .exit)) held m (now (marks .entry)) (now (marks .exit)) ⌝ }
 {
     if s <= word(work, 1) {

@@ -6,9 +6,13 @@ use lib.IntN.{ℤ}
 use mir.Syntax.{w32}
 use mir.Val.{toZ, ofZ}
 
+-- how many numbers a byte holds
+abbrev pub byte : ℕ
+byte = 256
+
 -- the number of four bytes
 abbrev pub word : ℕ → ℕ → ℕ → ℕ → ℕ
-word a b c d = a + 256 * (b + 256 * (c + 256 * d))
+word a b c d = a + byte * (b + byte * (c + byte * d))
 
 -- the unsigned number at a place of a list of bytes; bytes past the end read as 0
 unfoldable pub wordAt : List ℕ → ℕ → ℕ
@@ -20,7 +24,7 @@ intAt s at = toZ w32 (wordAt s at)
 
 -- the four bytes of an unsigned number
 unfoldable pub wordBytes : ℕ → List ℕ
-wordBytes n = n % 256 ∷ n / 256 % 256 ∷ n / 256 / 256 % 256 ∷ n / 256 / 256 / 256 ∷ []
+wordBytes n = n % byte ∷ n / byte % byte ∷ n / byte / byte % byte ∷ n / byte / byte / byte ∷ []
 
 -- the four bytes of a signed number
 unfoldable pub intBytes : ℤ → List ℕ

@@ -14,6 +14,14 @@ pub fn get_u8(s: &[u8], at: usize) -> u8
     if at < s.len() { s[at] } else { 0 }
 }
 
+// How many numbers a byte holds.
+const BYTE: u32 = 256;
+
+// The greatest number of four bytes, and the first that stands for a negative one.
+const GREATEST: u32 = 4294967295;
+
+const HALF: u32 = 2147483648;
+
 // The number of four bytes.
 pub fn of_bytes(a: u8, b: u8, c: u8, d: u8) -> u32
     ensures { λ r. ⌜ r ≡ word a b c d ⌝ }
@@ -22,7 +30,7 @@ pub fn of_bytes(a: u8, b: u8, c: u8, d: u8) -> u32
     let b = b as u32;
     let c = c as u32;
     let d = d as u32;
-    a + 256 * (b + 256 * (c + 256 * d))
+    a + BYTE * (b + BYTE * (c + BYTE * d))
 }
 
 // The number at a place where the list may end before its fourth byte.
@@ -56,10 +64,10 @@ pub fn get_u32(s: &[u8], at: usize) -> u32
 pub fn signed(u: u32) -> i32
     ensures { λ r. ⌜ r ≡ toZ w32 u ⌝ }
 {
-    if u < 2147483648 {
+    if u < HALF {
         u as i32
     } else {
-        let k = (4294967295 - u) as i32;
+        let k = (GREATEST - u) as i32;
         -1 - k
     }
 }
@@ -70,7 +78,7 @@ pub fn unsigned(v: i32) -> u32
 {
     if v < 0 {
         let k = -1 - v;
-        4294967295 - (k as u32)
+        GREATEST - (k as u32)
     } else {
         v as u32
     }
@@ -105,10 +113,10 @@ pub fn put_u32(out: &mut [u8], at: usize, u: u32)
     ensures { λ r. ⌜ now (out .exit) ≡ sets (now (out .entry)) at (wordBytes u) ⌝ }
 {
     if at < out.len() {
-        put_u8(out, at, (u % 256) as u8);
-        put_u8(out, at + 1, (u / 256 % 256) as u8);
-        put_u8(out, at + 2, (u / 256 / 256 % 256) as u8);
-        put_u8(out, at + 3, (u / 256 / 256 / 256) as u8);
+        put_u8(out, at, (u % BYTE) as u8);
+        put_u8(out, at + 1, (u / BYTE % BYTE) as u8);
+        put_u8(out, at + 2, (u / BYTE / BYTE % BYTE) as u8);
+        put_u8(out, at + 3, (u / BYTE / BYTE / BYTE) as u8);
     }
 }
 

@@ -3,8 +3,10 @@
 use format::WriteAnswer;
 use preference::PreferenceList;
 ghost use mathlib.Core.Path.{_≡_};
-ghost use Prim.Native.Nat.{_+_, _<_, _≤_, _^_};
+ghost use Prim.Native.Nat.{_+_, _*_, _<_, _≤_};
 ghost use lib.ListN.{length};
+ghost use Rattle.limits.specs.Limits.{maxValues, maxWishes, maxNamed, maxStreamBytes, usizeEnd};
+ghost use Rattle.format.specs.Kinds.{runRecord, wishRecord, namedRecord};
 ghost use Rattle.runs.specs.Log.{rowCount, logNumber};
 ghost use Rattle.laws.specs.Outcome.{outcome};
 ghost use Rattle.laws.specs.Lists.{joined};
@@ -15,7 +17,7 @@ ghost use Rattle.word.specs.Puts.{Puts};
 
 // The named value at place k, where it belongs to the preference at place i.
 fn put_named_of(out: &mut [u8], at: usize, list: PreferenceList, i: usize, k: usize) -> usize
-    requires { ⌜ (at + 6 < 2 ^ 64) × (k < 64) ⌝ }
+    requires { ⌜ (at + namedRecord < usizeEnd) × (k < maxNamed) ⌝ }
     ensures { λ r. ⌜ Puts (now (out .entry)) (now (out .exit)) at r (namedBytesOf list i k) ⌝ }
 {
     let e = list.named[k];
@@ -28,7 +30,7 @@ fn put_named_of(out: &mut [u8], at: usize, list: PreferenceList, i: usize, k: us
 
 // The named values of the preference at place i.
 fn put_names_of(out: &mut [u8], at: usize, list: PreferenceList, i: usize) -> usize
-    requires { ⌜ (at + 384 < 2 ^ 64) × (list .namings ≤ 64) ⌝ }
+    requires { ⌜ (at + namedRecord * maxNamed < usizeEnd) × (list .namings ≤ maxNamed) ⌝ }
     ensures { λ r. ⌜ Puts (now (out .entry)) (now (out .exit)) at r (joined (namedBytesOf list i) (list .namings)) ⌝ }
 {
     let n = list.namings as usize;
@@ -43,7 +45,7 @@ fn put_names_of(out: &mut [u8], at: usize, list: PreferenceList, i: usize) -> us
 
 // The preference at place i, and its named values.
 fn put_part(out: &mut [u8], at: usize, list: PreferenceList, i: usize) -> usize
-    requires { ⌜ (at + 406 < 2 ^ 64) × (list .namings ≤ 64) × (i < 8) ⌝ }
+    requires { ⌜ (at + (wishRecord + namedRecord * maxNamed) < usizeEnd) × (list .namings ≤ maxNamed) × (i < maxWishes) ⌝ }
     ensures { λ r. ⌜ Puts (now (out .entry)) (now (out .exit)) at r (preferencePart list i) ⌝ }
 {
     let p = list.preferences[i];
@@ -52,7 +54,7 @@ fn put_part(out: &mut [u8], at: usize, list: PreferenceList, i: usize) -> usize
 }
 
 fn put_preferences(out: &mut [u8], list: PreferenceList) -> usize
-    requires { ⌜ (list .count ≤ 8) × (list .namings ≤ 64) ⌝ }
+    requires { ⌜ (list .count ≤ maxWishes) × (list .namings ≤ maxNamed) ⌝ }
     ensures { λ r. ⌜ Puts (now (out .entry)) (now (out .exit)) 0 r (joined (preferencePart list) (list .count)) ⌝ }
 {
     let n = list.count as usize;
@@ -67,14 +69,14 @@ fn put_preferences(out: &mut [u8], list: PreferenceList) -> usize
 
 // Row r of the log.
 fn put_row(out: &mut [u8], at: usize, log: &[i32], r: usize) -> usize
-    requires { ⌜ (at + 33 < 2 ^ 64) × (r < rowCount (now log)) ⌝ }
+    requires { ⌜ (at + runRecord < usizeEnd) × (r < rowCount (now log)) ⌝ }
     ensures { λ next. ⌜ Puts (now (out .entry)) (now (out .exit)) at next (rowBytes (now (log .entry)) r) ⌝ }
 {
     stream_record_writer::put_run(out, at, runs::row(log, r))
 }
 
 fn put_runs(out: &mut [u8], at: usize, log: &[i32]) -> usize
-    requires { ⌜ (at ≤ 4096) × (length (now log) ≤ 8192) ⌝ }
+    requires { ⌜ (at ≤ maxStreamBytes) × (length (now log) ≤ maxValues) ⌝ }
     ensures { λ r. ⌜
         Puts (now (out .entry)) (now (out .exit)) at r
         (joined (rowBytes (now (log .entry))) (rowCount (now (log .entry)))) ⌝ }

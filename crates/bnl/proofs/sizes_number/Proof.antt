@@ -40,7 +40,8 @@ returns-3 c =
     let b = c .before .before in
     let n = b .before .before .marks-number in
     let a = b .before .before .before .args in
-    rw (sym (n .ensures) ∙ b .before .if1 .left, b .if2 .left, lt-ltb (a .work) (2 * (rowCount (a .log .now) + a .w)) (omega (arith, c .before .row-count .ensures, c .if3 .taken)))
+    let room = lt-ltb (a .work) (2 * (rowCount (a .log .now) + a .w)) (omega (arith, c .before .row-count .ensures, c .if3 .taken)) in
+    rw (sym (n .ensures) ∙ b .before .if1 .left, b .if2 .left, room)
 
 returns-4 : tie.Need-returns-4
 unfolding sizesNumber _gives_ _then_
@@ -48,7 +49,8 @@ returns-4 c =
     let b = c .before .before in
     let n = b .before .before .marks-number in
     let a = b .before .before .before .args in
-    rw (sym (n .ensures) ∙ b .before .if1 .left, b .if2 .left, le-ltb (a .work) (2 * (rowCount (a .log .now) + a .w)) (omega (arith, c .before .row-count .ensures, c .if3 .left)))
+    let room = le-ltb (a .work) (2 * (rowCount (a .log .now) + a .w)) (omega (arith, c .before .row-count .ensures, c .if3 .left)) in
+    rw (sym (n .ensures) ∙ b .before .if1 .left, b .if2 .left, room)
 
 pub sizes-number-spec : {M : Type 1} → statement M
 sizes-number-spec = tie.close (tie.spec marks-number-requires returns returns-2 row-count-requires add-if3 mul-if3 returns-3 returns-4)

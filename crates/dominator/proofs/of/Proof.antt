@@ -1,5 +1,7 @@
-use Rattle.runs.specs.Log.{logOf}
+use Rattle.runs.specs.Log.{logOf, rowCount}
 use Rattle.dominator.specs.Laws.Answer.{refused, no-row, accepted, shortlisted, beaten}
+use mathlib.Core.Path.{_≡_}
+use Prim.Native.Nat.{_<_}
 use native.Mathlib.Omega.{arith}
 use borrow.Author.Needs.{needs}
 use Rattle.dominator.proofs.of.Statement.{statement}
@@ -21,34 +23,53 @@ returns-2 : tie.Need-returns-2
 returns-2 c =
     let a = c .before .before .before .before .args in
     let k = c .before .before .before .checked-number in
-    no-row (a .list) (logOf (a .log .now)) (a .row) (k .result) (k .ensures) (c .before .before .if1 .left) (omega (arith, c .if2 .taken, c .before .row-count .ensures))
+    no-row (a .list) (logOf (a .log .now)) (a .row) (k .result) (k .ensures) (c .before .before .if1 .left)
+    (omega (arith, c .if2 .taken, c .before .row-count .ensures))
 
 first-of-log-requires : tie.Need-first-of-log-requires
 first-of-log-requires c κs =
     let a = c .before .before .before .before .args in
     let k = c .before .before .before .checked-number in
-    accepted (a .list) (logOf (a .log .now)) (a .row) (k .result) (k .ensures) (c .before .before .if1 .left) (omega (arith, c .if2 .left, c .before .row-count .ensures))
+    accepted (a .list) (logOf (a .log .now)) (a .row) (k .result) (k .ensures) (c .before .before .if1 .left)
+    (omega (arith, c .if2 .left, c .before .row-count .ensures))
+
+-- what is known once the first row was looked for
+module _ (f : tie.After-first-of-log) where
+  abbrev rows : tie.After-row-count
+  rows = f .before .before
+
+  abbrev start : tie.Start
+  start = rows .before .before .before
+
+  there : start .args .row < rowCount (start .args .log .now)
+  there = omega (arith, f .before .if2 .left, rows .row-count .ensures)
+
+  abbrev none : rows .before .before .checked-number .result ≡ 0
+  none = rows .before .if1 .left
 
 returns-3 : tie.Need-returns-3
 returns-3 c =
-    let a = c .before .before .before .before .before .before .args in
-    let k = c .before .before .before .before .before .checked-number in
-    let b = c .before .first-of-log in
-    shortlisted (a .list) (logOf (a .log .now)) (a .row) (k .result) (k .ensures) (c .before .before .before .before .if1 .left) (omega (arith, c .before .before .if2 .left, c .before .before .before .row-count .ensures)) (b .result) (b .ensures) (omega (arith, c .if3 .taken, c .before .before .before .row-count .ensures))
+    let f = c .before in
+    let a = start f .args in
+    let k = rows f .before .before .checked-number in
+    shortlisted (a .list) (logOf (a .log .now)) (a .row) (k .result) (k .ensures) (none f) (there f) (f .first-of-log .result) (f .first-of-log .ensures)
+    (omega (arith, c .if3 .taken, rows f .row-count .ensures))
 
 cast-t9 : tie.Need-cast-t9
 cast-t9 c =
-    let a = c .before .before .before .before .before .before .args in
-    let k = c .before .before .before .before .before .checked-number in
-    let g = accepted (a .list) (logOf (a .log .now)) (a .row) (k .result) (k .ensures) (c .before .before .before .before .if1 .left) (omega (arith, c .before .before .if2 .left, c .before .before .before .row-count .ensures)) in
-    omega (arith, g .few, c .if3 .left, c .before .before .before .row-count .ensures)
+    let f = c .before in
+    let a = start f .args in
+    let k = rows f .before .before .checked-number in
+    let g = accepted (a .list) (logOf (a .log .now)) (a .row) (k .result) (k .ensures) (none f) (there f) in
+    omega (arith, g .few, c .if3 .left, rows f .row-count .ensures)
 
 returns-4 : tie.Need-returns-4
 returns-4 c =
-    let a = c .before .before .before .before .before .before .args in
-    let k = c .before .before .before .before .before .checked-number in
-    let b = c .before .first-of-log in
-    beaten (a .list) (logOf (a .log .now)) (a .row) (k .result) (k .ensures) (c .before .before .before .before .if1 .left) (omega (arith, c .before .before .if2 .left, c .before .before .before .row-count .ensures)) (b .result) (b .ensures) (omega (arith, c .if3 .left, c .before .before .before .row-count .ensures))
+    let f = c .before in
+    let a = start f .args in
+    let k = rows f .before .before .checked-number in
+    beaten (a .list) (logOf (a .log .now)) (a .row) (k .result) (k .ensures) (none f) (there f) (f .first-of-log .result) (f .first-of-log .ensures)
+    (omega (arith, c .if3 .left, rows f .row-count .ensures))
 
 pub of-spec : {M : Type 1} → statement M
 of-spec =
