@@ -37,8 +37,10 @@ ruleOf l k = cond (leb (length (maxLevels l)) k) zeroRule (ruleFor (preferenceAt
 
 -- part k is a layer, and others the layer of other values
 pub record Layered (l : PreferenceList) (k others : ℕ) : Type 0 where
-  pub level : (row : List ℤ) → layerOf l (partOf l k .place) (getD row (ruleOf l k .column) (pos 0)) others ≡ getD (levels l row) k 0
+  pub level : (row : List ℤ)
+      → layerOf l (partOf l k .place) (getD row (ruleOf l k .column) (pos 0)) others ≡ getD (levels l row) k 0
 
 -- the layer of row r among named values, in 16 bits
 abbrev pub rowLayer : List ℤ → List ℕ → ℕ → ℕ → List ℤ → ℕ → ℕ → ℕ
-rowLayer values layers count others log column r = among values layers count (getD (rowAt log r) column (pos 0)) others % levelCount
+rowLayer values layers count others log column r =
+    among values layers count (getD (rowAt log r) column (pos 0)) others % levelCount

@@ -1,5 +1,5 @@
--- The level table of a log, which engines look levels up in: eight numbers to a row, its level vector and zeros after it. Its levels are
--- those of `levels`: what document 01's level function says of a value, here of a whole log.
+-- The level table of a log, which engines look levels up in: eight numbers to a row, its level vector and zeros after
+-- it. Its levels are those of `levels`: what document 01's level function says of a value, here of a whole log.
 use Prim.Native.Nat.{ℕ, _*_, _/_, _%_}
 use mathlib.Core.List.{List, [], _∷_}
 use lib.IntN.{ℤ}

@@ -1,6 +1,7 @@
-// The level table of a log. This crate is of the wish layer, and the last that takes a wish apart. Engines know a wish only by what is
-// promised here of a whole log, by the same `levels` as the level call, and by the greatest levels (`levels::parts`, `levels::part_max`).
-// What decides a part is taken out of the list once; then one loop goes over the rows.
+// The level table of a log. This crate is of the wish layer, and the last that takes a wish apart. Engines know a wish
+// only by what is promised here of a whole log, by the same `levels` as the level call, and by the greatest levels
+// (`levels::parts`, `levels::part_max`). What decides a part is taken out of the list once; then one loop goes over the
+// rows.
 use constructor::Layering;
 use preference::PreferenceList;
 ghost use mathlib.Core.Path.{_≡_};

@@ -1,5 +1,5 @@
-// Dominance, best matches and marks (specs/), and what engines ask of a list and a log: their checks, the rows that compete, and how two
-// rows of a level table stand.
+// Dominance, best matches and marks (specs/), and what engines ask of a list and a log: their checks, the rows that
+// compete, and how two rows of a level table stand.
 use preference::PreferenceList;
 ghost use mathlib.Core.Path.{_≡_};
 ghost use Prim.Native.Nat.{_+_, _*_, _≤_};
@@ -93,7 +93,7 @@ pub fn competing_rows(log: &[i32], rows: &mut [usize]) -> usize
 
 // ---- two rows of a level table
 
-// How two rows stand.
+// How two rows stand. These are numbers and no enum, as the window keeps one in a byte for each entry.
 pub const EQUAL: u8 = 0;
 
 pub const FIRST_DOMINATES: u8 = 1;

@@ -55,9 +55,11 @@ module _ (l : PreferenceList) (log : List ℤ) (e : listNumber l ≡ 0) (r : ℕ
   level-small : (k : ℕ) → getD (levels l (rowAt log r)) k 0 < 65536
   level-small k =
       let w = levels-within l e (rowAt log r) f in
-      omega (arith, within-at (maxLevels l) (levels l (rowAt log r)) w k, at-most-at 65535 (maxLevels l) (max-levels-small l e) k)
+      let top = at-most-at 65535 (maxLevels l) (max-levels-small l e) k in
+      omega (arith, within-at (maxLevels l) (levels l (rowAt log r)) w k, top)
 
-  pub table-levels : (k : ℕ) → r < rowCount log → k < 8 → getD (tableOf l log) (8 * r + k) 0 ≡ getD (levels l (rowAt log r)) k 0
+  pub table-levels : (k : ℕ) → r < rowCount log → k < 8
+      → getD (tableOf l log) (8 * r + k) 0 ≡ getD (levels l (rowAt log r)) k 0
   unfolding tableOf tableLength
   table-levels k h j =
       let p : (8 * r + k) / 8 ≡ r = omega arith in
