@@ -1,5 +1,5 @@
 -- A table that is filled part by part: what the crate's own functions promise of it.
-use Prim.Native.Nat.{ℕ, zero, suc, _+_, _*_, _<_, _≤_}
+use Prim.Native.Nat.{ℕ, zero, suc, _+_, _*_}
 use mathlib.Core.List.{List}
 use lib.ListN.{set}
 use Rattle.limits.specs.Limits.{columns}
@@ -13,9 +13,3 @@ withPart f k (suc n) table = set (withPart f k n table) (columns * n + k) (f n)
 unfoldable pub withParts : (ℕ → ℕ → ℕ) → ℕ → ℕ → List ℕ → List ℕ
 withParts f zero n table = table
 withParts f (suc k) n table = withPart (f k) k n (withParts f k n table)
-
--- m of n rows are those that have column k of a table
-pub record RowsIn (n table k m : ℕ) : Type 0 where
-  pub few : m ≤ n
-  pub within : (r : ℕ) → r < m → columns * r + k < table
-  pub beyond : (r : ℕ) → m ≤ r → r < n → table ≤ columns * r + k

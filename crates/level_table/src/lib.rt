@@ -5,13 +5,14 @@
 use constructor::Layering;
 use preference::PreferenceList;
 ghost use mathlib.Core.Path.{_≡_};
-ghost use Prim.Native.Nat.{_/_, _<_};
+ghost use Prim.Native.Nat.{_<_};
 ghost use lib.IntN.{pos};
-ghost use lib.ListN.{getD, length};
+ghost use lib.ListN.{getD, set};
 ghost use lib.Seq.{sets};
+ghost use Rattle.limits.specs.Limits.{columns};
 ghost use Rattle.runs.specs.Log.{rowAt, rowCount};
 ghost use Rattle.level_table.specs.Table.{partAt, tableLength, tableOf};
-ghost use Rattle.level_table.specs.Filled.{withPart, RowsIn};
+ghost use Rattle.level_table.specs.Filled.{withPart};
 ghost use Rattle.level_table.specs.Rule.{rowLayer, ruleOf, Layered};
 
 // What decides a part of a level vector: the values of a column, by their distance from low..up or by layers.
@@ -55,16 +56,13 @@ fn rule_of(list: PreferenceList, k: usize) -> Rule
     }
 }
 
-// The rows of a log that have column k of a table.
-fn rows_in(log: &[i32], table: usize, k: usize) -> usize
-    ensures { λ r. ⌜ RowsIn (rowCount (now (log .entry))) table k r ⌝ }
+// Stores a level; nothing past the table's end.
+fn store(table: &mut [u16], at: usize, level: u16)
+    ensures { λ _. ⌜ now (table .exit) ≡ set (now (table .entry)) at level ⌝ }
 {
-    if table <= k {
-        return 0;
+    if at < table.len() {
+        table[at] = level;
     }
-    let held = (table - k - 1) / limits::COLUMNS + 1;
-    let rows = runs::row_count(log);
-    if rows <= held { rows } else { held }
 }
 
 // The value at a column of row r.
@@ -77,7 +75,7 @@ fn value_at(log: &[i32], r: usize, column: usize) -> i32
 // Part k of a form that goes by distance, into a column of a table: for each row a value, two differences, a division
 // and a store.
 fn fill_distances(list: PreferenceList, log: &[i32], k: usize, into: usize, table: &mut [u16])
-    requires { ⌜ ruleOf list k .layering ≡ Layering.Numeric ⌝ }
+    requires { ⌜ (ruleOf list k .layering ≡ Layering.Numeric) × (into < columns) ⌝ }
     ensures { λ _. ⌜
         now (table .exit)
         ≡ withPart (partAt list (now (log .entry)) k) into (rowCount (now (log .entry))) (now (table .entry)) ⌝ }
@@ -87,12 +85,16 @@ fn fill_distances(list: PreferenceList, log: &[i32], k: usize, into: usize, tabl
     let low = rule.low;
     let up = rule.up;
     let step = rule.step;
-    let n = rows_in(log, table.len(), into);
+    let n = runs::row_count(log);
     let mut r: usize = 0;
     while r < n {
         let v = value_at(log, r, column);
         let level = constructor::level_outside(low, up, step, v);
-        table[limits::COLUMNS * r + into] = (level % limits::LEVEL_COUNT) as u16;
+        store(
+            table,
+            limits::COLUMNS * r + into,
+            (level % limits::LEVEL_COUNT) as u16,
+        );
         r += 1;
     }
 }
@@ -108,17 +110,18 @@ fn fill_named(
     into: usize,
     table: &mut [u16],
 )
+    requires { ⌜ into < columns ⌝ }
     ensures { λ _. ⌜
         now (table .exit)
         ≡ withPart (rowLayer (now (values .entry)) (now (layers .entry)) count others (now (log .entry)) column)
         into (rowCount (now (log .entry))) (now (table .entry)) ⌝ }
 {
-    let n = rows_in(log, table.len(), into);
+    let n = runs::row_count(log);
     let mut r: usize = 0;
     while r < n {
         let v = value_at(log, r, column);
         let layer = levels::layer_among(values, layers, count, v, others);
-        table[limits::COLUMNS * r + into] = layer as u16;
+        store(table, limits::COLUMNS * r + into, layer as u16);
         r += 1;
     }
 }
@@ -132,7 +135,7 @@ fn fill_layers(
     others: u8,
     table: &mut [u16],
 )
-    requires { ⌜ Layered list k others ⌝ }
+    requires { ⌜ Layered list k others × (into < columns) ⌝ }
     ensures { λ _. ⌜
         now (table .exit)
         ≡ withPart (partAt list (now (log .entry)) k) into (rowCount (now (log .entry))) (now (table .entry)) ⌝ }
@@ -149,6 +152,7 @@ fn fill_layers(
 
 // Sets a column of a table, eight places to a row, to part k of the level vectors of a log, in 16 bits.
 fn fill_part(list: PreferenceList, log: &[i32], k: usize, into: usize, table: &mut [u16])
+    requires { ⌜ into < columns ⌝ }
     ensures { λ _. ⌜
         now (table .exit)
         ≡ withPart (partAt list (now (log .entry)) k) into (rowCount (now (log .entry))) (now (table .entry)) ⌝ }

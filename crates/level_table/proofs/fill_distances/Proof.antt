@@ -8,9 +8,9 @@ use native.Mathlib.Omega.{arith}
 use Rattle.arith.specs.Laws.Local.{num}
 use Rattle.runs.specs.Log.{rowAt}
 use Rattle.level_table.specs.Table.{partAt}
-use Rattle.level_table.specs.Filled.{withPart, RowsIn}
+use Rattle.level_table.specs.Filled.{withPart}
 use Rattle.level_table.specs.Laws.Rule.{Ruled, ruled-level}
-use Rattle.level_table.specs.Laws.Part.{with-part-more, with-part-end}
+use Rattle.level_table.specs.Laws.Part.{with-part-more}
 use Rattle.preference.specs.declared.PreferenceList.{PreferenceList}
 use Rattle.level_table.specs.declared.Rule.{Rule}
 use Rattle.level_table.proofs.fill_distances.Statement.{statement}
@@ -19,7 +19,7 @@ use Rattle.level_table.proofs.fill_distances.Tie as tie
 abbrev Inv-loop : tie.InvT-loop
 Inv-loop log k into table₀ column low up step n r₀ table r =
     (r ≤ n)
-    × RowsIn (length log / 8) (length table₀) into n
+    × (n ≡ length log / 8)
     × (length table ≡ length table₀)
     × ((l : PreferenceList) → Ruled l k column (toZ w32 low) (toZ w32 up) step → table ≡ withPart (partAt l log k) into r table₀)
 
@@ -29,12 +29,12 @@ abbrev μ-loop : tie.MeasureT-loop
 rule-of-requires : tie.Need-rule-of-requires Inv-loop μ-loop
 rule-of-requires c κs = search needs
 
-rows-in-requires : tie.Need-rows-in-requires Inv-loop μ-loop
-rows-in-requires c κs = search needs
+row-count-requires : tie.Need-row-count-requires Inv-loop μ-loop
+row-count-requires c κs = search needs
 
 loop-holds : tie.Need-loop-holds Inv-loop μ-loop
 unfolding withPart
-loop-holds c = (search needs, c .rows-in .ensures, refl, λ l h. refl)
+loop-holds c = (search needs, c .row-count .ensures, refl, λ l h. refl)
 
 value-at-requires : tie.Need-value-at-requires Inv-loop μ-loop
 value-at-requires c κs = search needs
@@ -42,26 +42,17 @@ value-at-requires c κs = search needs
 level-outside-requires : tie.Need-level-outside-requires Inv-loop μ-loop
 level-outside-requires c κs = search needs
 
-cast-table : tie.Need-cast-table Inv-loop μ-loop
-cast-table c = search needs
+mul-store : tie.Need-mul-store Inv-loop μ-loop
+mul-store c = search needs
 
-mul-table : tie.Need-mul-table Inv-loop μ-loop
-mul-table c = search needs
+add-store : tie.Need-add-store Inv-loop μ-loop
+add-store c = search needs
 
-add-table : tie.Need-add-table Inv-loop μ-loop
-add-table c =
-    let d = c .before .before .before .loop in
-    omega (arith, d .inv .1 .within (d .r) (c .before .before .loop-test .taken))
+cast-store : tie.Need-cast-store Inv-loop μ-loop
+cast-store c = search needs
 
-mul-table-2 : tie.Need-mul-table-2 Inv-loop μ-loop
-mul-table-2 c =
-    let d = c .before .before .before .loop in
-    omega (arith, d .inv .1 .within (d .r) (c .before .before .loop-test .taken))
-
-slice-write-table : tie.Need-slice-write-table Inv-loop μ-loop
-slice-write-table c =
-    let d = c .before .before .before .loop in
-    omega (arith, d .inv .1 .within (d .r) (c .before .before .loop-test .taken))
+store-requires : tie.Need-store-requires Inv-loop μ-loop
+store-requires c κs = search needs
 
 add-r : tie.Need-add-r Inv-loop μ-loop
 add-r c = search needs
@@ -71,17 +62,23 @@ loop-less c = search needs
 
 loop-again : tie.Need-loop-again Inv-loop μ-loop
 loop-again c =
-    let d = c .before .before .before in
-    let g = d .before .before .before .before in
-    let a = g .before .before .args in
-    let v = c .before .value-at in
+    let s = c .before .before in
+    let m = s .before .before in
+    let d = m .before .before .before in
+    let a = d .before .before .before .before .before .before .args in
+    let v = m .before .value-at in
     let row = rowAt (a .log .now) (d .loop .r) in (
       search needs,
       d .loop .inv .1,
-      length-set (d .loop .table) (8 * d .loop .r + a .into) (c .level-outside .result % 65536) ∙ d .loop .inv .2,
+      ap length (s .store .ensures)
+          ∙ length-set (d .loop .table) (8 * d .loop .r + a .into) (m .level-outside .result % 65536)
+          ∙ d .loop .inv .2,
       λ l h.
-          let e = rw (num (v .result) (v .ok)) at (c .level-outside .ensures) ∙ ruled-level l (a .k) _ _ _ _ h row (v .result) (v .ensures) (v .ok) in
-          rw (e, d .loop .inv .3 l h) (with-part-more (partAt l (a .log .now) (a .k)) (a .into) (a .table .now) (d .loop .r)),
+          let e =
+          rw (num (v .result) (v .ok)) at (m .level-outside .ensures)
+          ∙ ruled-level l (a .k) _ _ _ _ h row (v .result) (v .ensures) (v .ok) in
+          s .store .ensures
+          ∙ rw (e, d .loop .inv .3 l h) (with-part-more (partAt l (a .log .now) (a .k)) (a .into) (a .table .now) (d .loop .r)),
     )
 
 same-length : tie.Need-same-length Inv-loop μ-loop
@@ -89,21 +86,20 @@ same-length c = c .before .loop .inv .2
 
 returns : tie.Need-returns Inv-loop μ-loop
 returns c =
-    let d = c .before in
-    let g = d .before .before .before .before in
+    let d = c .before .loop in
+    let g = c .before .before .before .before .before in
     let a = g .before .before .args in
     let x = g .rule-of in
-    let k = d .before .before .before .struct-told .given in
-    let e : d .loop .r ≡ d .before .rows-in .result = omega arith in
+    let k = c .before .before .before .before .struct-told .given in
+    let e : d .r ≡ length (a .log .now) / 8 = omega (arith, d .inv .1) in
     let h : Ruled (a .list) (a .k) _ _ _ _ = record {
-      numeric = g .before .before .pre;
+      numeric = g .before .before .pre .0;
       column-is = ap (λ (r : Rule). r .column) (sym (x .ensures));
       low-is = ap (λ (r : Rule). r .low) (sym (x .ensures)) ∙ sym (num (x .result .low) (k .1 .0 .1));
       up-is = ap (λ (r : Rule). r .up) (sym (x .ensures)) ∙ sym (num (x .result .up) (k .1 .1 .0 .1));
       step-is = ap (λ (r : Rule). r .step) (sym (x .ensures));
     } in
-    d .loop .inv .3 (a .list) h
-    ∙ rw e (with-part-end (partAt (a .list) (a .log .now) (a .k)) (a .into) (a .table .now) (length (a .log .now) / 8) (d .before .rows-in .result) (d .loop .inv .1))
+    rw (← e) (d .inv .3 (a .list) h)
 
 pub fill-distances-spec : {M : Type 1} → statement M
 fill-distances-spec =
@@ -112,15 +108,14 @@ fill-distances-spec =
     Inv-loop
     μ-loop
     rule-of-requires
-    rows-in-requires
+    row-count-requires
     loop-holds
     value-at-requires
     level-outside-requires
-    cast-table
-    mul-table
-    add-table
-    mul-table-2
-    slice-write-table
+    mul-store
+    add-store
+    cast-store
+    store-requires
     add-r
     loop-less
     loop-again

@@ -47,7 +47,7 @@ returns c =
     (λ r.
     let row = rowAt (a .log .now) r in
     let v = getD row (x .result .column) (pos 0) in
-    ap (λ (n : ℕ). n % 65536) (y .ensures .layer v (a .others) ∙ ap (λ (q : PartAt). layerOf (a .list) (q .place) v (a .others)) (p .ensures) ∙ rw (x .ensures) (s .pre .level row)))
+    ap (λ (n : ℕ). n % 65536) (y .ensures .layer v (a .others) ∙ ap (λ (q : PartAt). layerOf (a .list) (q .place) v (a .others)) (p .ensures) ∙ rw (x .ensures) (s .pre .0 .level row)))
 
 pub fill-layers-spec : {M : Type 1} → statement M
 fill-layers-spec =

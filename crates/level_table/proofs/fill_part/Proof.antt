@@ -12,7 +12,8 @@ enum-told : tie.Need-enum-told
 enum-told c = search needs
 
 fill-distances-requires : tie.Need-fill-distances-requires
-fill-distances-requires c κs = ap (λ (r : Rule). r .layering) (sym (c .before .before .before .rule-of .ensures)) ∙ c .before .enum-told .given .1
+fill-distances-requires c κs =
+    (ap (λ (r : Rule). r .layering) (sym (c .before .before .before .rule-of .ensures)) ∙ c .before .enum-told .given .1, search needs)
 
 enum-known-y : tie.Need-enum-known-y
 enum-known-y c = search needs
@@ -21,7 +22,8 @@ fill-layers-requires : tie.Need-fill-layers-requires
 fill-layers-requires c κs =
     let x = c .before .before .before .before in
     let a = x .before .before .args in
-    record { level = λ row. rule-layers (a .list) row (a .k) _ _ (ap (λ (r : Rule). r .layering) (sym (x .rule-of .ensures)) ∙ c .before .before .y .given .1) }
+    let told = ap (λ (r : Rule). r .layering) (sym (x .rule-of .ensures)) ∙ c .before .before .y .given .1 in
+    (record { level = λ row. rule-layers (a .list) row (a .k) _ _ told }, search needs)
 
 same-length : tie.Need-same-length
 same-length c = search needs
