@@ -1,80 +1,120 @@
--- Demand 1: "every call ends with its result or with a number of document 01, and a refusal leaves the runs and the marks untouched."
--- Each call's contract gives its outcome for every input; here are the numbers that can come back, and what a refusal leaves.
-use mathlib.Core.Path.{_≡_, sym, _∙_}
-use Prim.Native.Nat.{ℕ, suc, _≤_}
-use native.Mathlib.Omega.{arith}
-use native.Mathlib.Nat.{pos-of-ne-zero}
-use mathlib.Core.List.{List, _++_}
-use lib.IntN.{ℤ, negsuc}
+-- Demand 1: "every call ends with its result or with a number of document 01, and a refusal leaves the runs and the
+-- marks untouched." Each call's contract gives its outcome for every input; here are the numbers that can come back
+-- (specs/Numbers.antt), and what a refusal leaves.
+use mathlib.Core.Path.{_≡_, sym, ap, _∙_}
+use Prim.Native.Nat.{ℕ}
+use mathlib.Core.List.{List, _∷_, _++_}
+use lib.Dec.{eqb}
+use lib.IntN.{ℤ}
 use lib.ListN.{length, drop, replicate}
 use borrow.Author.Tests.{eq-eqb, ne-eqb}
-use Rattle.laws.specs.Outcome.{outcome}
+use Rattle.laws.specs.Lists.{anyOf}
+use Rattle.laws.specs.Outcome.{refused, outcome}
 use Rattle.laws.specs.Laws.Outcome.{refused-number}
 use Rattle.runs.specs.Log.{Log}
-use Rattle.preference.specs.Level as level
-use Rattle.preference.specs.declared.LevelAnswer.the-variants.{Refused as LevelRefused}
+use Rattle.preference.specs.Level.{levelNumber, levelAt}
 use Rattle.preference.specs.declared.PreferenceList.{PreferenceList}
-use Rattle.pareto.specs.Best.{marksLeft}
+use Rattle.pareto.specs.Call.{Call, Leaves}
+use Rattle.pareto.specs.Numbers.{Among}
+use Rattle.pareto.specs.Laws.Call.{refused-leaves}
+use Rattle.pareto.specs.Laws.Numbers.{among-some}
 use Rattle.format.specs.Read.{readOf, logAfter}
 use Rattle.format.specs.Write.{writeNumber, outAfter}
 use Rattle.nodes.specs.Lattice.{nodeCount}
 use Rattle.lattice.specs.Walked.{latticeTops}
-use Rattle.lattice.specs.Engine.{nodesLeft, Ran}
-use Rattle.lattice.specs.declared.LatticeAnswer.the-variants.{Refused as LatticeRefused}
-use Rattle.bnl.specs.Engine as window
-use Rattle.bnl.specs.declared.WindowAnswer.the-variants.{Refused as WindowRefused}
-use Rattle.dominator.specs.Engine.{RefusedBy}
-use Rattle.selection.specs.Selected.{Selected}
-use Rattle.agreement.specs.Laws.After.{result-some}
-use Rattle.agreement.specs.Laws.Numbers.{lattice-most, window-most, dominator-most, level-most, write-most, read-most}
+use Rattle.lattice.specs.Engine.{latticeCall, nodesLeft}
+use Rattle.bnl.specs.Engine.{windowCall, WorkLeft}
+use Rattle.dominator.specs.Engine.{dominatorNumber, RefusedBy}
+use Rattle.console.specs.Flat.{flatLatticeCall, flatWindowCall}
+use Rattle.report.specs.Report.{reportCall}
+use Rattle.agreement.specs.Numbers.{levelNumbers, readNumbers, writeNumbers, latticeNumbers, windowNumbers}
+use Rattle.agreement.specs.Numbers.{dominatorNumbers}
+use Rattle.agreement.specs.Numbers.{flatLatticeNumbers, flatWindowNumbers, programNumbers}
+use Rattle.agreement.specs.Laws.Numbers.{lattice-among, window-among, dominator-among, level-among, write-among}
+use Rattle.agreement.specs.Laws.Numbers.{read-among}
+use Rattle.agreement.specs.Laws.Streams.{flat-lattice-among, flat-window-among, program-among}
 
--- a number between 1 and m
-abbrev NumberTo : ℕ → ℕ → Type 0
-NumberTo m k = (1 ≤ k) × (k ≤ m)
+-- a number that a call is refused by is not 0
+some-among : (ns : List ℕ) (n k : ℕ) → n ≡ k → (k ≡ 0 → ⊥) → Among (0 ∷ ns) n → Among ns k
+some-among ns n k e h a = among-some ns k h (ap (λ (j : ℕ). anyOf (eqb j) (0 ∷ ns)) (sym e) ∙ a)
 
-kept : (k : ℕ) (l : PreferenceList) (log : Log) (marks : List ℕ) → (k ≡ 0 → ⊥) → marksLeft k l log marks ≡ marks
-unfolding marksLeft
-kept k l log marks h = rw (ne-eqb k 0 h)
+-- a refused call: its number is one of these, and the marks are as they were
+refused-call : (ns : List ℕ) (c : Call) → Among (0 ∷ ns) (c .number) → (marks marks′ : List ℕ) (k : ℕ)
+    → Leaves c marks (refused k) marks′
+    → Among ns k × (marks′ ≡ marks)
+refused-call ns c m marks marks′ k a =
+    let p = refused-leaves c marks k marks′ a in
+    (some-among ns (c .number) k (p .0) (p .1) m, p .2)
 
-module _ (l : PreferenceList) (log : Log) where
+module _ (l : PreferenceList) (log : Log) (marks marks′ : List ℕ) where
   -- "except that 11 leaves each node's byte zero"
-  pub lattice-refused : (marks marks′ nodes nodes′ : List ℕ) (budget k : ℕ) → Ran l log marks nodes budget (LatticeRefused k) marks′ nodes′
-      → NumberTo 11 k × (marks′ ≡ marks) × ((k ≡ 11 → ⊥) → nodes′ ≡ nodes)
+  pub lattice-refused : (nodes nodes′ : List ℕ) (budget k : ℕ)
+      → let call = latticeCall l log (length marks) (length nodes) budget in
+      Leaves call marks (refused k) marks′ → nodes′ ≡ nodesLeft call nodes
+      → (Among latticeNumbers k × (marks′ ≡ marks)) × ((k ≡ 11 → ⊥) → nodes′ ≡ nodes)
       × (k ≡ 11 → nodes′ ≡ replicate (nodeCount (latticeTops l)) 0 ++ drop (nodeCount (latticeTops l)) nodes)
   unfolding nodesLeft
-  lattice-refused marks marks′ nodes nodes′ budget k a =
-      let n = refused-number _ _ k (a .ends) in (
-        (omega (arith, n .0, pos-of-ne-zero (n .1)), omega (arith, n .0, lattice-most l log (length marks) (length nodes) budget)),
-        a .marks-are ∙ kept _ l log marks (n .1),
-        λ h. a .nodes-are ∙ rw (ne-eqb _ 0 (n .1), ne-eqb _ 11 (λ e. h (sym (n .0) ∙ e))),
-        λ h. a .nodes-are ∙ rw (ne-eqb _ 0 (n .1), eq-eqb _ 11 (n .0 ∙ h)),
+  lattice-refused nodes nodes′ budget k a b =
+      let call = latticeCall l log (length marks) (length nodes) budget in
+      let p = refused-leaves call marks k marks′ a in
+      let some : call .number ≡ 0 → ⊥ = λ z. p .1 (sym (p .0) ∙ z) in (
+        refused-call latticeNumbers call (lattice-among l log (length marks) (length nodes) budget) marks marks′ k a,
+        λ h. b ∙ rw (ne-eqb (call .number) 0 some, ne-eqb (call .number) 11 (λ e. h (sym (p .0) ∙ e))),
+        λ h. b ∙ rw (ne-eqb (call .number) 0 some, eq-eqb (call .number) 11 (p .0 ∙ h)),
       )
 
-  pub window-refused : (marks marks′ work work′ : List ℕ) (w k : ℕ) → window.Answered l log w marks marks′ work work′ (WindowRefused k)
-      → NumberTo 10 k × (marks′ ≡ marks) × (work′ ≡ work)
-  window-refused marks marks′ work work′ w k a =
-      let n = refused-number _ _ k (a .answer) in
-      ((omega (arith, n .0, pos-of-ne-zero (n .1)), omega (arith, n .0, window-most l log (length marks) (length work) w)), a .marks-after ∙ kept _ l log marks (n .1), a .work-unchanged (n .1))
+  pub window-refused : (work work′ : List ℕ) (w k : ℕ)
+      → Leaves (windowCall l log (length marks) (length work) w) marks (refused k) marks′
+      → WorkLeft (windowCall l log (length marks) (length work) w) work work′
+      → (Among windowNumbers k × (marks′ ≡ marks)) × (work′ ≡ work)
+  window-refused work work′ w k a b =
+      let call = windowCall l log (length marks) (length work) w in
+      let p = refused-leaves call marks k marks′ a in (
+        refused-call windowNumbers call (window-among l log (length marks) (length work) w) marks marks′ k a,
+        b (λ z. p .1 (sym (p .0) ∙ z)),
+      )
 
-  pub dominator-refused : (row k : ℕ) → RefusedBy l log row k → NumberTo 13 k
-  dominator-refused row k a = (pos-of-ne-zero (a .some), omega (arith, a .number, dominator-most l log row))
+pub dominator-refused : (l : PreferenceList) (log : Log) (row k : ℕ) → RefusedBy l log row k → Among dominatorNumbers k
+dominator-refused l log row k a =
+    some-among dominatorNumbers (dominatorNumber l log row) k (sym (a .number)) (a .some) (dominator-among l log row)
 
-  -- a flat call's result below zero is minus its number
-  pub flat-refused : (number : ℕ) (marks marks′ : List ℕ) (k : ℕ) → Selected number l log marks marks′ (negsuc k) → (number ≡ suc k) × (marks′ ≡ marks)
-  flat-refused number marks marks′ k a =
-      let n = result-some number _ k (a .result) in
-      (n, a .marks-are ∙ kept number l log marks (λ z. absurd (omega (arith, n, z))))
-
-pub write-refused : (l : PreferenceList) (log : List ℤ) (out : List ℕ) → (writeNumber l log (length out) ≡ 0 → ⊥)
-    → (writeNumber l log (length out) ≤ 10) × (outAfter l log out ≡ out)
-unfolding outAfter
-write-refused l log out h = (write-most l log (length out), rw (ne-eqb (writeNumber l log (length out)) 0 h))
-
-pub level-refused : (l : PreferenceList) (place : ℕ) (value : ℤ) (k : ℕ) → level.outcomeOf (LevelRefused k) ≡ outcome (level.levelNumber l place value) (level.levelAt l place value) → NumberTo 10 k
+pub level-refused : (l : PreferenceList) (place : ℕ) (value : ℤ) (k : ℕ)
+    → refused k ≡ outcome (levelNumber l place value) (levelAt l place value)
+    → Among levelNumbers k
 level-refused l place value k e =
     let n = refused-number _ _ k e in
-    (omega (arith, n .0, pos-of-ne-zero (n .1)), omega (arith, n .0, level-most l place value))
+    some-among levelNumbers (levelNumber l place value) k (n .0) (λ z. n .1 (n .0 ∙ z)) (level-among l place value)
 
-pub read-refused : (s : List ℕ) (log : List ℤ) → (readOf s (length log) .number ≡ 0 → ⊥) → (readOf s (length log) .number ≤ 10) × (logAfter s log ≡ log)
+pub read-refused : (s : List ℕ) (log : List ℤ) → (readOf s (length log) .number ≡ 0 → ⊥)
+    → Among readNumbers (readOf s (length log) .number) × (logAfter s log ≡ log)
 unfolding logAfter
-read-refused s log h = (read-most s (length log), rw (ne-eqb (readOf s (length log) .number) 0 h))
+read-refused s log h = (
+  among-some readNumbers (readOf s (length log) .number) h (read-among s (length log)),
+  rw (ne-eqb (readOf s (length log) .number) 0 h),
+)
+
+pub write-refused : (l : PreferenceList) (log : List ℤ) (out : List ℕ) → (writeNumber l log (length out) ≡ 0 → ⊥)
+    → Among writeNumbers (writeNumber l log (length out)) × (outAfter l log out ≡ out)
+unfolding outAfter
+write-refused l log out h = (
+  among-some writeNumbers (writeNumber l log (length out)) h (write-among l log (length out)),
+  rw (ne-eqb (writeNumber l log (length out)) 0 h),
+)
+
+-- the flat calls: a result below zero is minus the number
+module _ (s marks marks′ : List ℕ) (k : ℕ) where
+  pub flat-lattice-refused : (budget : ℕ) → Leaves (flatLatticeCall s (length marks) budget) marks (refused k) marks′
+      → Among flatLatticeNumbers k × (marks′ ≡ marks)
+  flat-lattice-refused budget =
+      refused-call flatLatticeNumbers (flatLatticeCall s (length marks) budget)
+      (flat-lattice-among s (length marks) budget) marks marks′ k
+
+  pub flat-window-refused : (w : ℕ) → Leaves (flatWindowCall s (length marks) w) marks (refused k) marks′
+      → Among flatWindowNumbers k × (marks′ ≡ marks)
+  flat-window-refused w =
+      refused-call flatWindowNumbers (flatWindowCall s (length marks) w)
+      (flat-window-among s (length marks) w) marks marks′ k
+
+-- the program's `refused N`
+pub program-refused : (s : List ℕ) → (reportCall s .number ≡ 0 → ⊥) → Among programNumbers (reportCall s .number)
+program-refused s h = among-some programNumbers (reportCall s .number) h (program-among s)

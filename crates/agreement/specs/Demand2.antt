@@ -1,6 +1,6 @@
--- Demand 2: "The runs named are exactly the best matches of the Pareto preference .., as documents 000 and 003 define it". A BestMatch is a
--- row in the sense of 000, Def. 15 and Def. 19; that the levels are the papers' is constructor, Laws/Papers.antt and Laws/Greatest.antt.
--- "Reading and writing the records undo each other": roundtrip, Theorems.antt.
+-- Demand 2: "The runs named are exactly the best matches of the Pareto preference .., as documents 000 and 003 define
+-- it". A BestMatch is a row in the sense of 000, Def. 15 and Def. 19; that the levels are the papers' is constructor,
+-- Laws/Papers.antt and Laws/Greatest.antt. "Reading and writing the records undo each other": roundtrip, Theorems.antt.
 use mathlib.Core.Path.{_≡_, refl}
 use Prim.Native.Nat.{ℕ, _<_}
 use mathlib.Core.Bool.{true}
@@ -10,8 +10,8 @@ use Rattle.laws.specs.Lists.{anyOf}
 use Rattle.laws.specs.Laws.AnyOf.{passing-found, passing-any}
 use Rattle.runs.specs.Log.{Log, rowCount}
 use Rattle.preference.specs.declared.PreferenceList.{PreferenceList}
-use Rattle.pareto.specs.Best.{isBest, bestMatches}
-use Rattle.pareto.specs.Laws.Best.{BestMatch, best-match, match-best}
+use Rattle.pareto.specs.Best.{isBest, bestMatches, BestMatch}
+use Rattle.pareto.specs.Laws.Best.{best-match, match-best}
 
 module _ (l : PreferenceList) (log : Log) (r : ℕ) where
   -- a row that is named is a best match of the log
@@ -25,4 +25,5 @@ module _ (l : PreferenceList) (log : Log) (r : ℕ) where
   -- and every best match is named
   pub best-named : r < rowCount (log .values) → BestMatch l log r → anyOf (eqb r) (bestMatches l log) ≡ true
   unfolding bestMatches
-  best-named h b = passing-any (eqb r) (isBest l log) (rowCount (log .values)) r h (match-best l log r b) (eq-eqb r r refl)
+  best-named h b =
+      passing-any (eqb r) (isBest l log) (rowCount (log .values)) r h (match-best l log r b) (eq-eqb r r refl)

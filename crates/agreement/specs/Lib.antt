@@ -1,4 +1,5 @@
 pub mod Calls
+pub mod Numbers
 pub mod Laws
 pub mod Demand1
 pub mod Demand2

@@ -11,11 +11,10 @@ use Rattle.pareto.specs.Laws.Competing.{competing-few, competing-at}
 use Rattle.machine.specs.Machine.{machine}
 use Rattle.window.specs.Work.{tableDominates}
 use Rattle.passes.specs.Passes.{Waits}
-use Rattle.bnl.specs.Engine.{machineOf}
-use Rattle.bnl.specs.Laws.Accepted.{Accepted}
+use Rattle.bnl.specs.Engine.{machineOf, Runnable}
 use Rattle.bnl.specs.Laws.Marks.{machine-table}
 
-module _ (l : PreferenceList) (log : Log) (marks work w : ℕ) (g : Accepted l log marks work w) where
+module _ (l : PreferenceList) (log : Log) (marks work w : ℕ) (g : Runnable l log marks work w) where
   -- the competing rows can wait
   pub rows-wait : Waits w (competing log) work
   rows-wait = record {
@@ -26,5 +25,6 @@ module _ (l : PreferenceList) (log : Log) (marks work w : ℕ) (g : Accepted l l
   }
 
   -- the machine on the level table is the machine on the log
-  pub filled-machine : (t rows : List ℕ) (n : ℕ) → t ≡ tableOf l (log .values) → rows ≡ competing log → n ≡ rowCount (log .values) → machine (tableDominates t) w rows n ≡ machineOf l log w
+  pub filled-machine : (t rows : List ℕ) (n : ℕ) → t ≡ tableOf l (log .values) → rows ≡ competing log → n ≡ rowCount (log .values)
+      → machine (tableDominates t) w rows n ≡ machineOf l log w
   filled-machine t rows n e r m = rw (e, r, m) (machine-table l log (g .list) (g .values) w)

@@ -1,17 +1,18 @@
 -- Document 01, "Window machine": the window engine's call over a list and a log.
-use Prim.Native.Nat.{ℕ, _+_, _*_}
+use Prim.Native.Nat.{ℕ, _+_, _*_, _≤_}
 use mathlib.Core.Path.{_≡_}
 use mathlib.Core.Bool.{_||_}
 use mathlib.Core.List.{List}
 use lib.Dec.{ltb, eqb}
-use lib.ListN.{length}
 use Rattle.limits.specs.Limits.{maxWindow}
 use Rattle.laws.specs.Checks.{_gives_, _then_}
-use Rattle.laws.specs.Outcome.{Outcome, accepted, refused, outcome}
+use Rattle.laws.specs.Outcome.{Outcome, accepted, refused}
 use Rattle.runs.specs.Log.{Log, rowCount}
+use Rattle.preference.specs.Valid.{listNumber}
 use Rattle.preference.specs.declared.PreferenceList.{PreferenceList}
-use Rattle.pareto.specs.Best.{competing, rowDominates, marksLeft}
-use Rattle.pareto.specs.Checked.{marksNumber, checkedNumber}
+use Rattle.pareto.specs.Best.{competing, rowDominates}
+use Rattle.pareto.specs.Call.{Call}
+use Rattle.pareto.specs.Checked.{marksNumber, rowsNumber, checkedNumber}
 use Rattle.machine.specs.Machine.{State, machine}
 use Rattle.bnl.specs.declared.WindowAnswer.{WindowAnswer}
 use Rattle.bnl.specs.declared.WindowAnswer.the-variants.{Compared, Refused}
@@ -31,13 +32,26 @@ windowNumber l log marks work w = checkedNumber l log (sizesNumber log marks wor
 unfoldable pub machineOf : PreferenceList → Log → ℕ → State
 machineOf l log w = machine (rowDominates l log) w (competing log) (rowCount (log .values))
 
+-- a call with so many mark bytes and numbers in the work list; the value due is the machine's count
+abbrev pub windowCall : PreferenceList → Log → ℕ → ℕ → ℕ → Call
+windowCall l log marks work w =
+    record { list = l; log = log; number = windowNumber l log marks work w; value = machineOf l log w .count }
+
+-- the work list before and after a call: "Nothing lent changes on a refusal"; it "is free after an accepted call"
+abbrev pub WorkLeft : Call → List ℕ → List ℕ → Type 0
+WorkLeft c work work′ = (c .number ≡ 0 → ⊥) → work′ ≡ work
+
 -- the number or the value that an answer stands for
 abbrev pub outcomeOf : WindowAnswer → Outcome ℕ
 outcomeOf (Compared n) = accepted n
 outcomeOf (Refused k) = refused k
 
--- what a call answers and leaves: "The work list .. is free after an accepted call."
-pub record Answered (l : PreferenceList) (log : Log) (w : ℕ) (marks marks′ work work′ : List ℕ) (r : WindowAnswer) : Type 0 where
-  pub answer : outcomeOf r ≡ outcome (windowNumber l log (length marks) (length work) w) (machineOf l log w .count)
-  pub marks-after : marks′ ≡ marksLeft (windowNumber l log (length marks) (length work) w) l log marks
-  pub work-unchanged : (windowNumber l log (length marks) (length work) w ≡ 0 → ⊥) → work′ ≡ work
+-- what a call that no check refuses has
+pub record Runnable (l : PreferenceList) (log : Log) (marks work w : ℕ) : Type 0 where
+  pub list : listNumber l ≡ 0
+  pub values : rowsNumber l (log .values) ≡ 0
+  pub few : rowCount (log .values) ≤ 1024
+  pub marked : rowCount (log .values) ≤ marks
+  pub some : 1 ≤ w
+  pub narrow : w ≤ 1024
+  pub room : 2 * (rowCount (log .values) + w) ≤ work

@@ -5,8 +5,8 @@ ghost use Prim.Native.Nat.{ℕ, _+_, _*_, _/_, _<_, _≤_};
 ghost use lib.ListN.{length};
 ghost use Rattle.runs.specs.Log.{logOf};
 ghost use Rattle.pareto.specs.Best.{marksAfter};
-ghost use Rattle.bnl.specs.Engine.{sizesNumber, machineOf, Answered};
-ghost use Rattle.bnl.specs.Laws.Accepted.{Accepted};
+ghost use Rattle.pareto.specs.Call.{Leaves};
+ghost use Rattle.bnl.specs.Engine.{sizesNumber, machineOf, windowCall, WorkLeft, outcomeOf, Runnable};
 
 // The compares made, or the number that the call is refused by.
 pub enum WindowAnswer {
@@ -37,7 +37,7 @@ fn run_accepted(
     work: &mut [u32],
     w: u32,
 ) -> u32
-    requires { ⌜ Accepted list (logOf (now log)) (length (now marks)) (length (now work)) w ⌝ }
+    requires { ⌜ Runnable list (logOf (now log)) (length (now marks)) (length (now work)) w ⌝ }
     ensures { λ c.
         ⌜ (c ≡ machineOf list (logOf (now (log .entry))) w .count)
         × (now (marks .exit) ≡ marksAfter list (logOf (now (log .entry))) (now (marks .entry))) ⌝ }
@@ -66,8 +66,13 @@ pub fn run(
     w: u32,
 ) -> WindowAnswer
     ensures { λ r.
-        ⌜ Answered list (logOf (now (log .entry))) w (now (marks .entry)) (now (marks .exit))
-        (now (work .entry)) (now (work .exit)) r ⌝ }
+        ⌜ Leaves
+        (windowCall list (logOf (now (log .entry))) (length (now (marks .entry))) (length (now (work .entry))) w)
+        (now (marks .entry)) (outcomeOf r) (now (marks .exit)) ⌝ }
+    ensures { λ r.
+        ⌜ WorkLeft
+        (windowCall list (logOf (now (log .entry))) (length (now (marks .entry))) (length (now (work .entry))) w)
+        (now (work .entry)) (now (work .exit)) ⌝ }
 {
     let number = pareto::checked_number(list, log, sizes_number(log, marks.len(), work.len(), w));
     if number != 0 {

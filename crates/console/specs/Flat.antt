@@ -1,14 +1,22 @@
--- Document 01, "The other calls": the numbers of the flat calls. Their own node bytes and work list are long enough for every call.
-use Prim.Native.Nat.{ℕ}
+-- Document 01, "The other calls": the flat calls. Their own node bytes and work list are long enough for every call.
+use Prim.Native.Nat.{ℕ, suc}
 use mathlib.Core.List.{List}
-use Rattle.lattice.specs.Engine.{latticeNumber}
-use Rattle.bnl.specs.Engine.{windowNumber}
+use lib.IntN.{ℤ, pos, negsuc}
+use Rattle.laws.specs.Outcome.{Outcome, accepted, refused}
+use Rattle.pareto.specs.Call.{Call, counting}
+use Rattle.lattice.specs.Engine.{latticeCall}
+use Rattle.bnl.specs.Engine.{windowCall}
 use Rattle.selection.specs.Stream.{afterReading}
 
--- for a stream, so many mark bytes and a budget
-unfoldable pub flatLattice : List ℕ → ℕ → ℕ → ℕ
-flatLattice s marks budget = afterReading s (λ l log. latticeNumber l log marks 32768 budget)
+-- "the result is the number of shortlisted rows, or minus the refusal number"
+abbrev pub signedOutcome : ℤ → Outcome ℕ
+signedOutcome (pos n) = accepted n
+signedOutcome (negsuc k) = refused (suc k)
 
--- for a stream, so many mark bytes and a window's size
-unfoldable pub flatWindow : List ℕ → ℕ → ℕ → ℕ
-flatWindow s marks w = afterReading s (λ l log. windowNumber l log marks 4096 w)
+-- on a stream, with so many mark bytes and a budget
+abbrev pub flatLatticeCall : List ℕ → ℕ → ℕ → Call
+flatLatticeCall s marks budget = afterReading s (λ l log. counting (latticeCall l log marks 32768 budget))
+
+-- on a stream, with so many mark bytes and a window's size
+abbrev pub flatWindowCall : List ℕ → ℕ → ℕ → Call
+flatWindowCall s marks w = afterReading s (λ l log. counting (windowCall l log marks 4096 w))

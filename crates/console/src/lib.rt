@@ -1,33 +1,51 @@
 // The flat calls: what a display written in C links to. include/shortlist.h says in words what the contracts here say.
+use selection::Selection;
+ghost use mathlib.Core.Path.{_≡_};
 ghost use lib.ListN.{length};
-ghost use Rattle.selection.specs.Selected.{Selected};
-ghost use Rattle.selection.specs.Stream.{listIn, logIn};
-ghost use Rattle.console.specs.Flat.{flatLattice, flatWindow};
+ghost use Rattle.laws.specs.Outcome.{refused};
+ghost use Rattle.pareto.specs.Call.{Leaves};
+ghost use Rattle.selection.specs.Selection.{outcomeOf};
+ghost use Rattle.console.specs.Flat.{signedOutcome, flatLatticeCall, flatWindowCall};
+
+// Tells a refusal by its sign.
+fn signed(selection: Selection) -> i32
+    requires { ⌜ (outcomeOf selection ≡ refused 0 → ⊥) ⌝ }
+    ensures { λ r. ⌜ signedOutcome r ≡ outcomeOf selection ⌝ }
+{
+    match selection {
+        Selection::Best(n) => n as i32,
+        Selection::Refused(k) => 0 - (k as i32),
+    }
+}
 
 // The shortlist of a stream, by the lattice engine within a budget of crossings.
 #[no_mangle]
 pub extern "C" fn shortlist_lattice(stream: &[u8], marks: &mut [u8], budget: u32) -> i32
-    ensures { λ r. ⌜ Selected (flatLattice (now (stream .entry)) (length (now (marks .entry))) budget) (listIn (now (stream .entry))) (logIn (now (stream .entry))) (now (marks .entry)) (now (marks .exit)) r ⌝ }
+    ensures { λ r.
+        ⌜ Leaves (flatLatticeCall (now (stream .entry)) (length (now (marks .entry))) budget)
+        (now (marks .entry)) (signedOutcome r) (now (marks .exit)) ⌝ }
 {
     let mut log = [0i32; 8192];
     let read = reader::read(stream, &mut log);
     if read.number != 0 {
-        return selection::minus(read.number);
+        return signed(Selection::Refused(read.number));
     }
     let end = 8 * read.rows;
-    selection::by_lattice(read.list, &log[..end], marks, budget)
+    signed(selection::by_lattice(read.list, &log[..end], marks, budget))
 }
 
 // The shortlist of a stream, by the window engine with a window of w entries.
 #[no_mangle]
 pub extern "C" fn shortlist_window(stream: &[u8], marks: &mut [u8], w: u32) -> i32
-    ensures { λ r. ⌜ Selected (flatWindow (now (stream .entry)) (length (now (marks .entry))) w) (listIn (now (stream .entry))) (logIn (now (stream .entry))) (now (marks .entry)) (now (marks .exit)) r ⌝ }
+    ensures { λ r.
+        ⌜ Leaves (flatWindowCall (now (stream .entry)) (length (now (marks .entry))) w)
+        (now (marks .entry)) (signedOutcome r) (now (marks .exit)) ⌝ }
 {
     let mut log = [0i32; 8192];
     let found = reader::read(stream, &mut log);
     if found.number != 0 {
-        return selection::minus(found.number);
+        return signed(Selection::Refused(found.number));
     }
     let end = 8 * found.rows;
-    selection::by_window(found.list, &log[..end], marks, w)
+    signed(selection::by_window(found.list, &log[..end], marks, w))
 }

@@ -13,7 +13,8 @@ use Rattle.dominator.specs.declared.DominatorAnswer.the-variants.{Row, R
 
 -- the checks that engines share; 12: no such row; 13: the row is on the shortlist itself
 unfoldable pub dominatorNumber : PreferenceList → Log → ℕ → ℕ
-dominatorNumber l log row = checkedNumber l log 0 then leb (rowCount (log .values)) row gives 12 then isBest l log row gives 13
+dominatorNumber l log row =
+    checkedNumber l log 0 then leb (rowCount (log .values)) row gives 12 then isBest l log row gives 13
 
 -- a row of the shortlist that betters the asked one; which one is free
 pub record Beaten (l : PreferenceList) (log : Log) (row s : ℕ) : Type 0 where

@@ -23,7 +23,7 @@ unfoldable pub firstDominator : PreferenceList → Log → ℕ → ℕ
 firstDominator l log row = firstAt (bestDominates l log row) (rowCount (log .values))
 
 -- what the checks leave
-pub record Accepted (l : PreferenceList) (log : Log) (row : ℕ) : Type 0 where
+pub record RowAsked (l : PreferenceList) (log : Log) (row : ℕ) : Type 0 where
   pub list : listNumber l ≡ 0
   pub values : rowsNumber l (log .values) ≡ 0
   pub few : rowCount (log .values) ≤ maxRuns

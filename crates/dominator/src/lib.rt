@@ -3,7 +3,7 @@ use preference::PreferenceList;
 ghost use mathlib.Core.Path.{_≡_};
 ghost use Rattle.laws.specs.Lists.{anyOf};
 ghost use Rattle.runs.specs.Log.{logOf};
-ghost use Rattle.dominator.specs.First.{beats, bestBeats, firstOf, firstDominator, Accepted};
+ghost use Rattle.dominator.specs.First.{beats, bestBeats, firstOf, firstDominator, RowAsked};
 ghost use Rattle.dominator.specs.Engine.{Answered};
 
 // A row of the shortlist that betters the asked one, or the number that the call is refused by.
@@ -53,7 +53,7 @@ fn first_dominator(table: &[u16], rows: &[usize], row: usize, none: usize) -> us
 
 // The search among the competing rows of what the checks accepted.
 fn first_of_log(list: PreferenceList, log: &[i32], row: usize) -> usize
-    requires { ⌜ Accepted list (logOf (now log)) row ⌝ }
+    requires { ⌜ RowAsked list (logOf (now log)) row ⌝ }
     ensures { λ s. ⌜ s ≡ firstDominator list (logOf (now (log .entry))) row ⌝ }
 {
     let mut table = [0u16; limits::MAX_VALUES];

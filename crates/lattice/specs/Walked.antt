@@ -1,5 +1,5 @@
--- The lattice that the engine walks: its greatest levels, and the level vectors that hold its nodes. Everything that a call promises of nodes, bytes,
--- crossings and their bound is said of this lattice.
+-- The lattice that the engine walks: its greatest levels, and the level vectors that hold its nodes. Everything that a
+-- call promises of nodes, bytes, crossings and their bound is said of this lattice.
 use Prim.Native.Nat.{ℕ}
 use mathlib.Core.List.{List, map}
 use Rattle.runs.specs.Log.{Log}

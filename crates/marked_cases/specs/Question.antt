@@ -39,9 +39,11 @@ answer (levelAsked l i v) = ends (outcome (levelNumber l i v) (levelAt l i v))
 answer (maxAsked l i) = figure (maxAt l i)
 answer (marksAsked l log) = figures (marksOf l log)
 answer (machineAsked l log w) = figures (machineOf l log w .marks)
-answer (latticeAsked l log) = figures (nodeCount (latticeTops l) ∷ crossings (latticeTops l) (latticeRows l log) ∷ bound (latticeTops l) ∷ [])
+answer (latticeAsked l log) =
+    figures (nodeCount (latticeTops l) ∷ crossings (latticeTops l) (latticeRows l log) ∷ bound (latticeTops l) ∷ [])
 answer (windowCalled l log marks work w) = ends (outcome (windowNumber l log marks work w) (machineOf l log w .count))
-answer (latticeCalled l log marks nodes budget) = ends (outcome (latticeNumber l log marks nodes budget) (crossings (latticeTops l) (latticeRows l log)))
+answer (latticeCalled l log marks nodes budget) =
+    ends (outcome (latticeNumber l log marks nodes budget) (crossings (latticeTops l) (latticeRows l log)))
 
 pub record Case : Type 0 where
   pub asks : Question

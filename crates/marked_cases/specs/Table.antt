@@ -11,7 +11,8 @@ use Rattle.preference.specs.List.{zeroPreference, zeroNamed}
 use Rattle.preference.specs.declared.Named.{Named}
 use Rattle.preference.specs.declared.Preference.{Preference}
 use Rattle.preference.specs.declared.PreferenceList.{PreferenceList}
-use Rattle.marked_cases.specs.Question.{levelAsked, maxAsked, marksAsked, machineAsked, latticeAsked, latticeCalled, windowCalled, ends, figure, figures, Case}
+use Rattle.marked_cases.specs.Question.{levelAsked, maxAsked, marksAsked, machineAsked, latticeAsked}
+use Rattle.marked_cases.specs.Question.{latticeCalled, windowCalled, ends, figure, figures, Case}
 
 -- a list with these preferences and named values, and zeros at the rest of its eight and 64 places
 abbrev pub listOf : List Preference → List Named → PreferenceList
@@ -48,7 +49,9 @@ abbrev pub lowest : ℕ → PreferenceList
 lowest step = single (Lowest (negsuc 2147483647) (pos 2147483647) step) []
 
 abbrev pub layered : PreferenceList
-layered = single (Layered 2 1) (record { preference = 0; value = pos 7; layer = 0 } ∷ record { preference = 0; value = pos 3; layer = 2 } ∷ [])
+layered =
+    single (Layered 2 1)
+    (record { preference = 0; value = pos 7; layer = 0 } ∷ record { preference = 0; value = pos 3; layer = 2 } ∷ [])
 
 -- the Harbour log: most cubic metres, density near 1,250; hours, cubic metres and density of each run, the rest 0
 abbrev pub harbour : PreferenceList
@@ -66,7 +69,9 @@ harbourLog = logOf (run 800 900 1300 ++ run 650 1000 1400 ++ run 700 850 1250 ++
 
 -- two LOWEST wishes by 1, with so many levels above 0
 abbrev pub twoLowest : ℕ → ℕ → PreferenceList
-twoLowest m n = listOf (record { column = 1; constructor = Lowest (pos 0) (pos m) 1 } ∷ record { column = 2; constructor = Lowest (pos 0) (pos n) 1 } ∷ []) []
+twoLowest m n =
+    listOf (record { column = 1; constructor = Lowest (pos 0) (pos m) 1 } ∷ record
+    { column = 2; constructor = Lowest (pos 0) (pos n) 1 } ∷ []) []
 
 abbrev pub marks : PreferenceList → Log → List ℕ → Case
 marks l log m = record { asks = marksAsked l log; expects = figures m }
@@ -79,7 +84,8 @@ abbrev pub crossed : PreferenceList → Log → ℕ → ℕ → ℕ → ℕ → 
 crossed l log rows nodes budget n = record { asks = latticeCalled l log rows nodes budget; expects = ends (accepted n) }
 
 abbrev pub notCrossed : PreferenceList → Log → ℕ → ℕ → ℕ → ℕ → Case
-notCrossed l log rows nodes budget k = record { asks = latticeCalled l log rows nodes budget; expects = ends (refused k) }
+notCrossed l log rows nodes budget k =
+    record { asks = latticeCalled l log rows nodes budget; expects = ends (refused k) }
 
 -- the window engine with window w, marks and a work list enough
 abbrev pub compared : PreferenceList → Log → ℕ → ℕ → ℕ → Case

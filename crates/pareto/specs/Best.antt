@@ -1,5 +1,6 @@
 -- Best matches (000, Def. 19; document 01: the shortlist) and marks.
-use Prim.Native.Nat.{ℕ}
+use mathlib.Core.Path.{_≡_}
+use Prim.Native.Nat.{ℕ, _<_}
 use mathlib.Core.Bool.{Bool, true, not, _&&_, cond}
 use mathlib.Core.List.{List, [], _∷_, _++_, map}
 use lib.Dec.{eqb}
@@ -8,7 +9,7 @@ use Rattle.laws.specs.Lists.{joined, passing, anyOf}
 use Rattle.runs.specs.Log.{Log, rowCount, rowAt}
 use Rattle.preference.specs.Parts.{levels}
 use Rattle.preference.specs.declared.PreferenceList.{PreferenceList}
-use Rattle.pareto.specs.Dominance.{dominates}
+use Rattle.pareto.specs.Dominance.{dominates, Pareto}
 
 -- "Every run competes."
 unfoldable pub competes : Log → ℕ → Bool
@@ -33,6 +34,12 @@ rowDominates l log s r = dominates (vectorAt l log s) (vectorAt l log r)
 unfoldable pub isBest : PreferenceList → Log → ℕ → Bool
 isBest l log r = competes log r && not (anyOf (λ s. rowDominates l log s r) (competing log))
 
+-- 000, Def. 19: it competes, and no competing row is better in the sense of Def. 15
+pub record BestMatch (l : PreferenceList) (log : Log) (r : ℕ) : Type 0 where
+  pub takes-part : competes log r ≡ true
+  pub undominated : (s : ℕ) → s < rowCount (log .values) → competes log s ≡ true
+      → Pareto (vectorAt l log s) (vectorAt l log r) → ⊥
+
 -- the shortlist: the rows that are best matches, in order
 unfoldable pub bestMatches : PreferenceList → Log → List ℕ
 bestMatches l log = passing (isBest l log) (rowCount (log .values))
@@ -47,10 +54,6 @@ marksOf l log = joined (λ r. markAt l log r ∷ []) (rowCount (log .values))
 -- the lent bytes after an accepted call: "Bytes past the rows .. are unchanged."
 unfoldable pub marksAfter : PreferenceList → Log → List ℕ → List ℕ
 marksAfter l log marks = marksOf l log ++ drop (rowCount (log .values)) marks
-
--- the lent bytes after a call that ends with number k, 0 where it is accepted: "Nothing lent changes on a refusal"
-unfoldable pub marksLeft : ℕ → PreferenceList → Log → List ℕ → List ℕ
-marksLeft k l log marks = cond (eqb k 0) (marksAfter l log marks) marks
 
 -- the rows below n that are marked
 unfoldable pub markedRows : List ℕ → ℕ → List ℕ

@@ -1,4 +1,5 @@
 pub mod List
+pub mod Same
 pub mod Valid
 pub mod Level
 pub mod Parts

@@ -1,6 +1,6 @@
--- Document 01: "Where the rows of a log are put in another order, the mark at a row's new place equals the mark at its old place,
--- whichever engine, window and budget the two accepted calls had." An accepted call of either engine leaves marksOf at the front of
--- the lent bytes (marksAfter), whatever its window or its budget.
+-- Document 01: "Where the rows of a log are put in another order, the mark at a row's new place equals the mark at its
+-- old place, whichever engine, window and budget the two accepted calls had." An accepted call of either engine leaves
+-- marksOf at the front of the lent bytes (marksAfter), whatever its window or its budget.
 use mathlib.Core.Path.{_≡_}
 use Prim.Native.Nat.{ℕ, _<_}
 use mathlib.Core.List.{List}
@@ -23,5 +23,6 @@ reordered-marks = marks-same
 
 -- the lent bytes after two accepted calls
 pub reordered-bytes : (l : PreferenceList) (log log′ : Log) (place origin : ℕ → ℕ) → Reordered log log′ place origin
-    → (bytes bytes′ : List ℕ) (r : ℕ) → r < rowCount (log .values) → getD (marksAfter l log′ bytes′) (place r) 0 ≡ getD (marksAfter l log bytes) r 0
+    → (bytes bytes′ : List ℕ) (r : ℕ) → r < rowCount (log .values)
+    → getD (marksAfter l log′ bytes′) (place r) 0 ≡ getD (marksAfter l log bytes) r 0
 reordered-bytes = marks-after-same

@@ -4,33 +4,41 @@ use Prim.Native.Nat.{ℕ, _≤_}
 use mathlib.Core.Bool.{cond}
 use mathlib.Core.List.{List, [], _++_}
 use lib.Dec.{eqb}
-use lib.ListN.{length}
+use lib.ListN.{length, take}
 use lib.Seq.{sets}
 use Rattle.laws.specs.Lists.{joined}
 use Rattle.runs.specs.Log.{Log, rowCount}
 use Rattle.preference.specs.declared.PreferenceList.{PreferenceList}
-use Rattle.pareto.specs.Best.{isBest, bestMatches}
-use Rattle.selection.specs.Selected.{eitherNumber}
-use Rattle.selection.specs.Stream.{listIn, logIn, afterReading}
+use Rattle.pareto.specs.Best.{isBest}
+use Rattle.pareto.specs.Call.{Call}
+use Rattle.selection.specs.Selection.{eitherCall}
+use Rattle.selection.specs.Stream.{afterReading}
 use Rattle.lines.specs.Lines.{refusedText, headText, lineText}
 
 -- a line for each shortlisted row, in order
 unfoldable pub linesText : PreferenceList → Log → List ℕ
 linesText l log = joined (λ r. cond (isBest l log r) (lineText (log .values) r) []) (rowCount (log .values))
 
--- the text of a list and a log whose checks give number k
-unfoldable pub textOf : ℕ → PreferenceList → Log → List ℕ
-textOf k l log = cond (eqb k 0) (headText (rowCount (log .values)) (length (bestMatches l log)) ++ linesText l log) (refusedText k)
+-- "`refused N`, or one of rows and shortlisted rows, then per shortlisted row its number, hours and cubic metres"
+unfoldable pub textOf : Call → List ℕ
+textOf c =
+    cond (eqb (c .number) 0) (headText (rowCount (c .log .values)) (c .value) ++ linesText (c .list) (c .log))
+    (refusedText (c .number))
 
--- the program has a mark byte for each row that a log can have
-unfoldable pub reportNumber : List ℕ → ℕ
-reportNumber s = afterReading s (λ l log. eitherNumber l log 1024)
+-- the program's call on a stream: it has a mark byte for each row that a log can have
+abbrev pub reportCall : List ℕ → Call
+reportCall s = afterReading s (λ l log. eitherCall l log 1024)
 
 unfoldable pub reportOf : List ℕ → List ℕ
-reportOf s = textOf (reportNumber s) (listIn s) (logIn s)
+reportOf s = textOf (reportCall s)
 
 -- a text stands at the front of the lent bytes, and is short enough for a buffer of 32,768
 pub record Reported (out last : List ℕ) (end : ℕ) (x : List ℕ) : Type 0 where
   pub end-is : end ≡ length x
   pub last-is : last ≡ sets out 0 x
   pub short : end ≤ 32768
+
+-- the report on every stream of which these are the n bytes read: all, or as many as the buffer holds
+abbrev pub ReportsFront : List ℕ → ℕ → List ℕ → List ℕ → ℕ → Type 0
+ReportsFront buffer n out last end =
+    (s : List ℕ) → take n buffer ≡ take (length buffer) s → Reported out last end (reportOf s)

@@ -1,28 +1,28 @@
 // The whole output of the program, as bytes.
 use preference::PreferenceList;
+use selection::Selection;
 ghost use Prim.Native.Nat.{_<_};
-ghost use Rattle.text.specs.Prints.{Prints};
 ghost use Rattle.runs.specs.Log.{logOf};
-ghost use Rattle.selection.specs.Selected.{eitherNumber};
+ghost use Rattle.text.specs.Prints.{Prints};
+ghost use Rattle.selection.specs.Selection.{eitherNumber, eitherCall};
 ghost use Rattle.report.specs.Report.{Reported, textOf, reportOf};
 
-// The report on a list and a log. Of the two gaps of a result, one is the refusal number and one the number of shortlisted rows.
+// The report on a list and a log.
 fn put_selected(out: &mut [u8], list: PreferenceList, log: &[i32]) -> usize
     ensures { λ r.
         ⌜ Prints (now (out .entry)) (now (out .exit)) 0 r
-        (textOf (eitherNumber list (logOf (now (log .entry))) 1024) list (logOf (now (log .entry)))) ⌝ }
+        (textOf (eitherCall list (logOf (now (log .entry))) 1024)) ⌝ }
     ensures { λ r. ⌜ eitherNumber list (logOf (now (log .entry))) 1024 < 4294967296 ⌝ }
 {
     let mut marks = [0u8; 1024];
-    let r = selection::by_either(list, log, &mut marks);
-    let refused = arith::signed_gap(0, r);
-    if refused != 0 {
-        return lines::put_refused(out, refused);
+    match selection::by_either(list, log, &mut marks) {
+        Selection::Best(best) => {
+            let rows = log.len() / 8;
+            let at = lines::put_head(out, rows as u64, best as u64);
+            lines::put_lines(out, at, log, &marks)
+        }
+        Selection::Refused(k) => lines::put_refused(out, k as u64),
     }
-    let best = arith::signed_gap(r, 0);
-    let rows = log.len() / 8;
-    let at = lines::put_head(out, rows as u64, best);
-    lines::put_lines(out, at, log, &marks)
 }
 
 // The report on a stream.

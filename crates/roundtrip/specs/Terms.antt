@@ -10,7 +10,7 @@ use Rattle.constructor.specs.declared.Constructor.{Constructor}
 use Rattle.constructor.specs.declared.Constructor.the-variants.{Lowest, Highest, Around, Between, Layered}
 use Rattle.preference.specs.List.{constructorAt, namedAt}
 use Rattle.preference.specs.Valid.{listNumber}
-use Rattle.preference.specs.Laws.Counted.{Same}
+use Rattle.preference.specs.Same.{Same}
 use Rattle.preference.specs.declared.PreferenceList.{PreferenceList}
 use Rattle.runs.specs.Log.{rowCount, logNumber}
 use Rattle.format.specs.Read.{readOf, valuesOf, logAfter}

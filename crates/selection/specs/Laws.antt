@@ -1,3 +1,3 @@
-pub mod Selected
+pub mod Counted
 pub mod Engines
 pub mod Stream

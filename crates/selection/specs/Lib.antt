@@ -1,3 +1,3 @@
-pub mod Selected
+pub mod Selection
 pub mod Stream
 pub mod Laws

@@ -5,6 +5,7 @@ use Rattle.laws.specs.Checks.{_then_}
 use Rattle.runs.specs.Log.{Log, logOf}
 use Rattle.preference.specs.declared.PreferenceList.{PreferenceList}
 use Rattle.format.specs.Read.{readOf, valuesOf}
+use Rattle.pareto.specs.Call.{Call}
 
 abbrev pub listIn : List ℕ → PreferenceList
 listIn s = readOf s 8192 .list
@@ -12,6 +13,8 @@ listIn s = readOf s 8192 .list
 abbrev pub logIn : List ℕ → Log
 logIn s = logOf (valuesOf s)
 
--- the number of a call on a stream: reading's, then that of the call on what was read
-unfoldable pub afterReading : List ℕ → (PreferenceList → Log → ℕ) → ℕ
-afterReading s number = readOf s 8192 .number then number (listIn s) (logIn s)
+-- a call on a stream: reading's number, then that of the call on what was read
+abbrev pub afterReading : List ℕ → (PreferenceList → Log → Call) → Call
+afterReading s call =
+    let c = call (listIn s) (logIn s) in
+    record { list = c .list; log = c .log; number = readOf s 8192 .number then c .number; value = c .value }

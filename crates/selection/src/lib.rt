@@ -1,31 +1,21 @@
-// Best matches by an engine that brings its own work space. The result is the number of shortlisted rows, or minus the number that the
-// call is refused by.
+// Best matches by an engine that brings its own work space.
 use bnl::WindowAnswer;
 use lattice::LatticeAnswer;
 use preference::PreferenceList;
 ghost use mathlib.Core.Path.{_≡_};
 ghost use Prim.Native.Nat.{_≤_};
-ghost use lib.IntN.{pos, negℤ};
 ghost use lib.ListN.{length};
 ghost use Rattle.runs.specs.Log.{logOf};
 ghost use Rattle.pareto.specs.Best.{markedRows};
-ghost use Rattle.lattice.specs.Engine.{latticeNumber};
-ghost use Rattle.bnl.specs.Engine.{windowNumber};
-ghost use Rattle.selection.specs.Selected.{one, Selected, eitherNumber};
+ghost use Rattle.pareto.specs.Call.{counting, Leaves};
+ghost use Rattle.lattice.specs.Engine.{latticeCall};
+ghost use Rattle.bnl.specs.Engine.{windowCall};
+ghost use Rattle.selection.specs.Selection.{one, outcomeOf, eitherCall};
 
-// ---- results
-
-fn plus(n: usize) -> i32
-    requires { ⌜ n ≤ 1024 ⌝ }
-    ensures { λ r. ⌜ r ≡ pos n ⌝ }
-{
-    n as i32
-}
-
-pub fn minus(k: u8) -> i32
-    ensures { λ r. ⌜ r ≡ negℤ (pos k) ⌝ }
-{
-    0 - (k as i32)
+// The number of shortlisted rows, or the number that the call is refused by.
+pub enum Selection {
+    Best(u16),
+    Refused(u8),
 }
 
 // 1 where row r is marked, else 0.
@@ -36,9 +26,9 @@ fn marked(marks: &[u8], r: usize) -> usize
 }
 
 // How many of the first n rows are marked.
-fn count_marked(marks: &[u8], n: usize) -> i32
+fn count_marked(marks: &[u8], n: usize) -> u16
     requires { ⌜ n ≤ 1024 ⌝ }
-    ensures { λ r. ⌜ r ≡ pos (length (markedRows (now (marks .entry)) n)) ⌝ }
+    ensures { λ r. ⌜ r ≡ length (markedRows (now (marks .entry)) n) ⌝ }
 {
     let mut count: usize = 0;
     let mut r: usize = 0;
@@ -46,46 +36,49 @@ fn count_marked(marks: &[u8], n: usize) -> i32
         count += marked(marks, r);
         r += 1;
     }
-    plus(count)
+    count as u16
 }
 
-// ---- the engines
-
 // By the lattice engine, within a budget of crossings.
-pub fn by_lattice(list: PreferenceList, log: &[i32], marks: &mut [u8], budget: u32) -> i32
+pub fn by_lattice(list: PreferenceList, log: &[i32], marks: &mut [u8], budget: u32) -> Selection
     ensures { λ r.
-        ⌜ Selected (latticeNumber list (logOf (now (log .entry))) (length (now (marks .entry))) 32768 budget)
-        list (logOf (now (log .entry))) (now (marks .entry)) (now (marks .exit)) r ⌝ }
+        ⌜ Leaves (counting (latticeCall list (logOf (now (log .entry))) (length (now (marks .entry))) 32768 budget))
+        (now (marks .entry)) (outcomeOf r) (now (marks .exit)) ⌝ }
 {
     let mut nodes = [0u8; 32768];
     match lattice::run(list, log, marks, &mut nodes, budget) {
-        LatticeAnswer::Crossed(_) => count_marked(marks, log.len() / 8),
-        LatticeAnswer::Refused(k) => minus(k),
+        LatticeAnswer::Crossed(_) => Selection::Best(count_marked(marks, log.len() / 8)),
+        LatticeAnswer::Refused(k) => Selection::Refused(k),
     }
 }
 
 // By the window engine, with a window of w entries.
-pub fn by_window(list: PreferenceList, log: &[i32], marks: &mut [u8], w: u32) -> i32
+pub fn by_window(list: PreferenceList, log: &[i32], marks: &mut [u8], w: u32) -> Selection
     ensures { λ r.
-        ⌜ Selected (windowNumber list (logOf (now (log .entry))) (length (now (marks .entry))) 4096 w)
-        list (logOf (now (log .entry))) (now (marks .entry)) (now (marks .exit)) r ⌝ }
+        ⌜ Leaves (counting (windowCall list (logOf (now (log .entry))) (length (now (marks .entry))) 4096 w))
+        (now (marks .entry)) (outcomeOf r) (now (marks .exit)) ⌝ }
 {
     let mut work = [0u32; 4096];
     match bnl::run(list, log, marks, &mut work, w) {
-        WindowAnswer::Compared(_) => count_marked(marks, log.len() / 8),
-        WindowAnswer::Refused(k) => minus(k),
+        WindowAnswer::Compared(_) => Selection::Best(count_marked(marks, log.len() / 8)),
+        WindowAnswer::Refused(k) => Selection::Refused(k),
     }
 }
 
 // By the lattice engine, or by the window engine where the lattice is too large.
-pub fn by_either(list: PreferenceList, log: &[i32], marks: &mut [u8]) -> i32
+pub fn by_either(list: PreferenceList, log: &[i32], marks: &mut [u8]) -> Selection
     ensures { λ r.
-        ⌜ Selected (eitherNumber list (logOf (now (log .entry))) (length (now (marks .entry))))
-        list (logOf (now (log .entry))) (now (marks .entry)) (now (marks .exit)) r ⌝ }
+        ⌜ Leaves (eitherCall list (logOf (now (log .entry))) (length (now (marks .entry))))
+        (now (marks .entry)) (outcomeOf r) (now (marks .exit)) ⌝ }
 {
-    let r = by_lattice(list, log, marks, 262144);
-    if arith::same(r, -9) {
-        return by_window(list, log, marks, 64);
+    let first = by_lattice(list, log, marks, 262144);
+    match first {
+        Selection::Best(n) => Selection::Best(n),
+        Selection::Refused(k) => {
+            if k == 9 {
+                return by_window(list, log, marks, 64);
+            }
+            Selection::Refused(k)
+        }
     }
-    r
 }

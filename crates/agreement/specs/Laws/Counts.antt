@@ -1,26 +1,18 @@
--- The counts that come back from accepted calls.
+-- The counts that come back from accepted calls, and the sizes that the window engine checks.
 use mathlib.Core.Path.{_≡_, refl}
 use Prim.Native.Nat.{ℕ, zero, suc, _+_, _-_, _*_, _/_, _≤_}
 use native.Mathlib.Omega.{arith}
 use mathlib.Core.Bool.{Bool, true, false, cond}
-use mathlib.Core.List.{List}
 use lib.ListN.{length}
 use borrow.Author.Tests.{ne-eqb, le-ltb}
-use Rattle.laws.specs.Outcome.{accepted}
-use Rattle.laws.specs.Laws.Outcome.{accepted-value}
 use Rattle.laws.specs.Checks.{_gives_, _then_}
 use Rattle.laws.specs.Laws.Bools.{false-true}
 use Rattle.runs.specs.Log.{Log, rowCount}
 use Rattle.preference.specs.declared.PreferenceList.{PreferenceList}
 use Rattle.pareto.specs.Best.{competing, rowDominates}
 use Rattle.pareto.specs.Checked.{marksNumber}
-use Rattle.nodes.specs.Lattice.{crossings}
 use Rattle.machine.specs.Laws.Ends.{count-bound-half}
-use Rattle.lattice.specs.Walked.{latticeTops, latticeRows}
-use Rattle.lattice.specs.Engine.{Ran}
-use Rattle.lattice.specs.declared.LatticeAnswer.the-variants.{Crossed}
-use Rattle.bnl.specs.Engine.{sizesNumber, machineOf, Answered}
-use Rattle.bnl.specs.declared.WindowAnswer.the-variants.{Compared}
+use Rattle.bnl.specs.Engine.{sizesNumber, machineOf}
 
 abbrev mark : Bool → ℕ
 mark t = cond t 1 0
@@ -30,13 +22,8 @@ one-best true = (λ e. refl, λ e. refl, omega arith)
 one-best false = (λ e. absurd (omega arith), λ e. false-true e, omega arith)
 
 module _ (l : PreferenceList) (log : Log) where
-  pub crossed-outcome : (marks marks′ nodes nodes′ : List ℕ) (budget count : ℕ) → Ran l log marks nodes budget (Crossed count) marks′ nodes′ → count ≡ crossings (latticeTops l) (latticeRows l log)
-  crossed-outcome marks marks′ nodes nodes′ budget count a = accepted-value _ _ count (a .ends)
-
-  pub compared-outcome : (marks marks′ work work′ : List ℕ) (w count : ℕ) → Answered l log w marks marks′ work work′ (Compared count) → count ≡ machineOf l log w .count
-  compared-outcome marks marks′ work work′ w count a = accepted-value _ _ count (a .answer)
-
-  pub window-bound : (w : ℕ) → 1 ≤ w → machineOf l log w .count ≤ length (competing log) * (length (competing log) - 1) / 2
+  pub window-bound : (w : ℕ) → 1 ≤ w
+      → machineOf l log w .count ≤ length (competing log) * (length (competing log) - 1) / 2
   unfolding machineOf
   window-bound w some = count-bound-half (rowDominates l log) w (competing log) (rowCount (log .values)) some
 
@@ -47,8 +34,13 @@ unfolding _then_
 then-last zero = refl
 then-last (suc a) = refl
 
-pub sizes-number : (log : Log) (marks work w : ℕ) → 1 ≤ w → w ≤ 1024 → 2 * (rowCount (log .values) + w) ≤ work → sizesNumber log marks work w ≡ marksNumber (log .values) marks
+pub sizes-number : (log : Log) (marks work w : ℕ) → 1 ≤ w → w ≤ 1024 → 2 * (rowCount (log .values) + w) ≤ work
+    → sizesNumber log marks work w ≡ marksNumber (log .values) marks
 unfolding sizesNumber _then_
 sizes-number log marks work w some narrow room =
-    rw (ne-eqb w 0 (λ e. absurd (omega arith)), le-ltb 1024 w narrow, le-ltb work (2 * (rowCount (log .values) + w)) room)
+    rw (
+      ne-eqb w 0 (λ e. absurd (omega arith)),
+      le-ltb 1024 w narrow,
+      le-ltb work (2 * (rowCount (log .values) + w)) room,
+    )
     (unfold _gives_ in then-last (marksNumber (log .values) marks))

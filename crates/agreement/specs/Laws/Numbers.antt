@@ -1,80 +1,133 @@
--- The numbers that each call can give.
-use Prim.Native.Nat.{ℕ, zero, suc, _≤_}
-use native.Mathlib.Omega.{arith}
-use native.Mathlib.Nat.{le-trans}
+-- The numbers that each call can give: 0, or one of its list.
+use mathlib.Core.Path.{_≡_, refl, sym, ap, _∙_}
+use Prim.Native.Nat.{ℕ, zero, suc}
 use mathlib.Core.Bool.{Bool, true, false, cond}
-use mathlib.Core.List.{List}
+use mathlib.Core.List.{List, [], _∷_}
 use lib.Dec.{eqb}
 use lib.IntN.{ℤ}
 use lib.ListN.{length, getD, drop}
-use borrow.Author.Needs.{needs}
-use Rattle.laws.specs.Checks.{_gives_, _then_}
+use borrow.Author.Tests.{eqb-true}
+use Rattle.laws.specs.Lists.{anyOf}
 use Rattle.runs.specs.Log.{Log, logNumber}
 use Rattle.preference.specs.Level.{levelNumber}
 use Rattle.preference.specs.declared.PreferenceList.{PreferenceList}
-use Rattle.pareto.specs.Checked.{marksNumber}
-use Rattle.pareto.specs.Laws.Numbers.{gives-most, then-most, layer-most, preference-most, list-most, value-most, checked-most}
-use Rattle.format.specs.Read.{lastConstructor, namingNumber, figuresNumber, recordNumber, unlessRefused, withRecord, step, start, records, endNumber, finish, readOf}
+use Rattle.pareto.specs.Checked.{marksNumber, checkedNumber}
+use Rattle.pareto.specs.Numbers.{Among, listNumbers, checkedNumbers}
+use Rattle.pareto.specs.Laws.Numbers.{within, wider, none-among, gives-among, then-among, layer-among, preference-among}
+use Rattle.pareto.specs.Laws.Numbers.{value-among, list-in, checked-among}
+use Rattle.format.specs.Read.{lastConstructor, namingNumber, figuresNumber, recordNumber, unlessRefused, withRecord}
+use Rattle.format.specs.Read.{step, start, records, endNumber, finish, readOf}
 use Rattle.format.specs.Write.{writeNumber}
 use Rattle.format.specs.Laws.Read.{step-keeps, steps-keep}
 use Rattle.format.specs.declared.Class.{Class}
 use Rattle.format.specs.declared.Class.the-variants.{Unknown, PreferenceRecord, NamedRecord, RunRecord}
 use Rattle.format.specs.declared.ReadAnswer.{ReadAnswer}
 use Rattle.lattice.specs.Engine.{latticeNumber}
+use Rattle.lattice.specs.Laws.Checked.{marks-among}
 use Rattle.bnl.specs.Engine.{sizesNumber, windowNumber}
 use Rattle.dominator.specs.Engine.{dominatorNumber}
+use Rattle.agreement.specs.Numbers.{levelNumbers, readNumbers, writeNumbers, latticeNumbers, windowNumbers}
+use Rattle.agreement.specs.Numbers.{dominatorNumbers}
 
-pub lattice-most : (l : PreferenceList) (log : Log) (marks nodes budget : ℕ) → latticeNumber l log marks nodes budget ≤ 11
-unfolding latticeNumber
-lattice-most l log marks nodes budget =
-    then-most 11 _ _ (le-trans (checked-most l log (marksNumber (log .values) marks) (gives-most 10 _ 10 (omega arith))) (omega arith)) (search (needs, gives-most, then-most))
+pub lattice-among : (l : PreferenceList) (log : Log) (marks nodes budget : ℕ)
+    → Among (0 ∷ latticeNumbers) (latticeNumber l log marks nodes budget)
+unfolding latticeNumber within anyOf
+lattice-among l log marks nodes budget =
+    let ns = latticeNumbers in
+    then-among ns _ _
+    (wider (0 ∷ checkedNumbers) (0 ∷ ns) (checkedNumber l log (marksNumber (log .values) marks)) refl
+    (marks-among l log marks))
+    (then-among ns _ _ (gives-among ns _ 9 refl)
+    (then-among ns _ _ (gives-among ns _ 10 refl) (gives-among ns _ 11 refl)))
 
-pub window-most : (l : PreferenceList) (log : Log) (marks work w : ℕ) → windowNumber l log marks work w ≤ 10
-unfolding windowNumber sizesNumber
-window-most l log marks work w = checked-most l log (sizesNumber log marks work w) (search (needs, gives-most, then-most))
+pub window-among : (l : PreferenceList) (log : Log) (marks work w : ℕ)
+    → Among (0 ∷ windowNumbers) (windowNumber l log marks work w)
+unfolding windowNumber sizesNumber anyOf
+window-among l log marks work w =
+    let ns = windowNumbers in
+    checked-among l log (sizesNumber log marks work w)
+    (then-among ns _ _ (gives-among ns _ 10 refl)
+    (then-among ns _ _ (gives-among ns _ 10 refl) (gives-among ns _ 10 refl)))
 
-pub dominator-most : (l : PreferenceList) (log : Log) (row : ℕ) → dominatorNumber l log row ≤ 13
-unfolding dominatorNumber
-dominator-most l log row = then-most 13 _ _ (le-trans (checked-most l log 0 (omega arith)) (omega arith)) (search (needs, gives-most, then-most))
+pub dominator-among : (l : PreferenceList) (log : Log) (row : ℕ)
+    → Among (0 ∷ dominatorNumbers) (dominatorNumber l log row)
+unfolding dominatorNumber within anyOf
+dominator-among l log row =
+    let ns = dominatorNumbers in
+    then-among ns _ _
+    (wider (0 ∷ checkedNumbers) (0 ∷ ns) (checkedNumber l log 0) refl
+    (checked-among l log 0 (none-among checkedNumbers)))
+    (then-among ns _ _ (gives-among ns _ 12 refl) (gives-among ns _ 13 refl))
 
-pub level-most : (l : PreferenceList) (i : ℕ) (v : ℤ) → levelNumber l i v ≤ 10
-unfolding levelNumber
-level-most l i v = search (needs, gives-most, then-most, list-most, value-most)
+pub level-among : (l : PreferenceList) (i : ℕ) (v : ℤ) → Among (0 ∷ levelNumbers) (levelNumber l i v)
+unfolding levelNumber within anyOf
+level-among l i v =
+    let ns = levelNumbers in
+    then-among ns _ _ (list-in ns refl l) (then-among ns _ _ (gives-among ns _ 10 refl) (value-among ns refl l i v))
 
-pub write-most : (l : PreferenceList) (log : List ℤ) (room : ℕ) → writeNumber l log room ≤ 10
-unfolding writeNumber logNumber
-write-most l log room = search (needs, gives-most, then-most, list-most)
+pub write-among : (l : PreferenceList) (log : List ℤ) (room : ℕ) → Among (0 ∷ writeNumbers) (writeNumber l log room)
+unfolding writeNumber logNumber within anyOf
+write-among l log room =
+    let ns = writeNumbers in
+    then-among ns _ _ (list-in ns refl l) (then-among ns _ _ (gives-among ns _ 10 refl) (gives-among ns _ 10 refl))
 
 -- ---- reading
 
-figures-most : (class : Class) (r : ReadAnswer) (bs : List ℕ) → figuresNumber class r bs ≤ 10
-unfolding figuresNumber namingNumber
-figures-most Unknown r bs = omega arith
-figures-most PreferenceRecord r bs = preference-most (r .list) _ _
-figures-most NamedRecord r bs = then-most 10 _ _ (layer-most (lastConstructor (r .list)) (getD bs 5 0)) (gives-most 10 _ 7 (omega arith))
-figures-most RunRecord r bs = gives-most 10 _ 7 (omega arith)
+abbrev pub recordNumbers : List ℕ
+recordNumbers = 2 ∷ 3 ∷ 4 ∷ 5 ∷ 6 ∷ 7 ∷ []
 
-record-most : (r : ReadAnswer) (bs : List ℕ) → recordNumber r bs ≤ 10
-unfolding recordNumber
-record-most r bs = search (needs, gives-most, then-most, figures-most)
+figures-among : (class : Class) (r : ReadAnswer) (bs : List ℕ) → Among (0 ∷ recordNumbers) (figuresNumber class r bs)
+unfolding figuresNumber namingNumber anyOf
+figures-among Unknown r bs = refl
+figures-among PreferenceRecord r bs = preference-among recordNumbers refl refl refl (r .list) _ _
+figures-among NamedRecord r bs =
+    then-among recordNumbers _ _ (layer-among recordNumbers refl refl (lastConstructor (r .list)) (getD bs 5 0))
+    (gives-among recordNumbers _ 7 refl)
+figures-among RunRecord r bs = gives-among recordNumbers _ 7 refl
 
-step-most : (s : List ℕ) (r : ReadAnswer) → r .number ≤ 10 → step s r .number ≤ 10
+record-among : (r : ReadAnswer) (bs : List ℕ) → Among (0 ∷ recordNumbers) (recordNumber r bs)
+unfolding recordNumber anyOf
+record-among r bs =
+    let ns = recordNumbers in
+    then-among ns _ _ (gives-among ns _ 2 refl)
+    (then-among ns _ _ (gives-among ns _ 3 refl) (then-among ns _ _ (gives-among ns _ 4 refl) (figures-among _ r bs)))
+
+step-among : (s : List ℕ) (r : ReadAnswer) → Among (0 ∷ recordNumbers) (r .number)
+    → Among (0 ∷ recordNumbers) (step s r .number)
 unfolding withRecord
-step-most s r h =
-    step-keeps (λ (a : ReadAnswer). a .number ≤ 10) s r (λ g e. omega arith) (λ k e. omega (arith, e, record-most r (drop (r .place) s))) (λ g. h)
+step-among s r h =
+    step-keeps (λ (a : ReadAnswer). Among (0 ∷ recordNumbers) (a .number)) s r
+    (λ g e. none-among recordNumbers)
+    (λ k e. ap (λ (j : ℕ). anyOf (eqb j) (0 ∷ recordNumbers)) (sym e) ∙ record-among r (drop (r .place) s))
+    (λ g. h)
 
-records-most : (s : List ℕ) → records s .number ≤ 10
+records-among : (s : List ℕ) → Among (0 ∷ recordNumbers) (records s .number)
 unfolding records
-records-most s = steps-keep (λ (a : ReadAnswer). a .number ≤ 10) s (step-most s) (length s) start (omega arith)
+records-among s =
+    steps-keep (λ (a : ReadAnswer). Among (0 ∷ recordNumbers) (a .number)) s (step-among s) (length s) start
+    (none-among recordNumbers)
 
-unless-most : (n place : ℕ) (r : ReadAnswer) → n ≤ 10 → r .number ≤ 10 → unlessRefused n place r .number ≤ 10
-unless-most zero place r h k = k
-unless-most (suc n) place r h k = h
-
-pub read-most : (s : List ℕ) (room : ℕ) → readOf s room .number ≤ 10
-unfolding readOf finish endNumber
-read-most s room = go (eqb (records s .number) 0)
+-- where the end gives one of a list that has a record's numbers
+pub read-in : (ns : List ℕ) → within (0 ∷ recordNumbers) (0 ∷ ns) ≡ true → (s : List ℕ) (room : ℕ)
+    → (records s .number ≡ 0 → Among (0 ∷ ns) (endNumber (records s) room)) → Among (0 ∷ ns) (readOf s room .number)
+unfolding readOf finish
+read-in ns w s room h = go (eqb (records s .number) 0) refl
   where
-    go : (t : Bool) → cond t (unlessRefused (endNumber (records s) room) (length s) (records s)) (records s) .number ≤ 10
-    go true = unless-most (endNumber (records s) room) (length s) (records s) (search (needs, gives-most, then-most)) (records-most s)
-    go false = records-most s
+    all : Among (0 ∷ ns) (records s .number)
+    all = wider (0 ∷ recordNumbers) (0 ∷ ns) (records s .number) w (records-among s)
+
+    unless : (n place : ℕ) → Among (0 ∷ ns) n → Among (0 ∷ ns) (unlessRefused n place (records s) .number)
+    unless zero place k = all
+    unless (suc n) place k = k
+
+    go : (t : Bool) → eqb (records s .number) 0 ≡ t
+        → Among (0 ∷ ns)
+        (cond t (unlessRefused (endNumber (records s) room) (length s) (records s)) (records s) .number)
+    go true e = unless (endNumber (records s) room) (length s) (h (eqb-true (records s .number) 0 e))
+    go false e = all
+
+pub read-among : (s : List ℕ) (room : ℕ) → Among (0 ∷ readNumbers) (readOf s room .number)
+unfolding endNumber within anyOf
+read-among s room =
+    let ns = readNumbers in
+    read-in ns refl s room (λ z. then-among ns _ _ (gives-among ns _ 1 refl) (gives-among ns _ 10 refl))

@@ -1,9 +1,9 @@
-use mathlib.Core.Path.{sym, ap, _∙_}
+use mathlib.Core.Path.{refl, sym, ap, _∙_}
 use Rattle.runs.specs.Log.{logOf}
 use Rattle.pareto.specs.Checked.{checkedNumber}
-use Rattle.bnl.specs.Engine.{windowNumber}
+use Rattle.pareto.specs.Laws.Call.{leaves-refused, leaves-accepted}
+use Rattle.bnl.specs.Engine.{windowNumber, windowCall}
 use Rattle.bnl.specs.Laws.Accepted.{accepted}
-use Rattle.bnl.proofs.Answering.{refused-answer, accepted-answer}
 use borrow.Author.Needs.{needs}
 use lib.ListN.{length}
 use Rattle.bnl.proofs.run.Statement.{statement}
@@ -20,8 +20,9 @@ unfolding windowNumber
 returns c =
     let a = c .before .before .before .before .before .args in
     let n = c .before .checked-number in
-    refused-answer (a .list) (logOf (a .log .now)) (a .w) (a .marks .now) (a .work .now) (n .result)
-    (n .ensures ∙ ap (checkedNumber (a .list) (logOf (a .log .now))) (c .before .before .sizes-number .ensures)) (c .if1 .taken)
+    let call = windowCall (a .list) (logOf (a .log .now)) (length (a .marks .now)) (length (a .work .now)) (a .w) in
+    let e = n .ensures ∙ ap (checkedNumber (a .list) (logOf (a .log .now))) (c .before .before .sizes-number .ensures) in
+    (leaves-refused call (a .marks .now) (n .result) (sym e) (c .if1 .taken), λ _. refl)
 
 run-accepted-requires : tie.Need-run-accepted-requires
 unfolding windowNumber
@@ -44,9 +45,10 @@ returns-2 c =
     let a = b .before .before .before .before .before .args in
     let n = b .before .checked-number in
     let r = c .before .before .before .before .run-accepted in
-    accepted-answer (a .list) (logOf (a .log .now)) (a .w) (a .marks .now) (a .work .now) (n .result)
-    (n .ensures ∙ ap (checkedNumber (a .list) (logOf (a .log .now))) (b .before .before .sizes-number .ensures)) (b .if1 .left)
-    (r .last .1 .1 .0) (r .last .1 .1 .1 .0) (r .result) (r .ensures .0) (r .ensures .1)
+    let call = windowCall (a .list) (logOf (a .log .now)) (length (a .marks .now)) (length (a .work .now)) (a .w) in
+    let e = n .ensures ∙ ap (checkedNumber (a .list) (logOf (a .log .now))) (b .before .before .sizes-number .ensures) in
+    let z = sym e ∙ b .if1 .left in
+    (leaves-accepted call (a .marks .now) (r .result) (r .last .1 .1 .0) z (r .ensures .0) (r .ensures .1), λ h. absurd (h z))
 
 pub run-spec : {M : Type 1} → statement M
 run-spec =

@@ -122,7 +122,11 @@ cast-result : tie.Need-cast-result
 cast-result c =
     let d = c .before .before .before .before .before .before .before .before .before in
     let s = start d in
-    omega (arith, c .before .before .before .before .run-rows .ensures .0 ∙ ap (λ (st : State). st .count) (runs d), count-small (s .args .list) (logOf (s .args .log .now)) (s .args .w) (s .pre .some) (s .pre .few))
+    omega (
+      arith,
+      c .before .before .before .before .run-rows .ensures .0 ∙ ap (λ (st : State). st .count) (runs d),
+      count-small (s .args .list) (logOf (s .args .log .now)) (s .args .w) (s .pre .some) (s .pre .few),
+    )
 
 same-length : tie.Need-same-length
 same-length c = search needs

@@ -13,18 +13,10 @@ use Rattle.runs.specs.Laws.Log as runs
 use Rattle.preference.specs.Valid.{listNumber}
 use Rattle.preference.specs.declared.PreferenceList.{PreferenceList}
 use Rattle.pareto.specs.Checked.{marksNumber, rowsNumber, checkedNumber}
-use Rattle.bnl.specs.Engine.{sizesNumber, windowNumber}
+use Rattle.bnl.specs.Engine.{sizesNumber, windowNumber, Runnable}
 
-pub record Accepted (l : PreferenceList) (log : Log) (marks work w : ℕ) : Type 0 where
-  pub list : listNumber l ≡ 0
-  pub values : rowsNumber l (log .values) ≡ 0
-  pub few : rowCount (log .values) ≤ 1024
-  pub marked : rowCount (log .values) ≤ marks
-  pub some : 1 ≤ w
-  pub narrow : w ≤ 1024
-  pub room : 2 * (rowCount (log .values) + w) ≤ work
-
-pub accepted : (l : PreferenceList) (log : Log) (marks work w : ℕ) → windowNumber l log marks work w ≡ 0 → Accepted l log marks work w
+pub accepted : (l : PreferenceList) (log : Log) (marks work w : ℕ) → windowNumber l log marks work w ≡ 0
+    → Runnable l log marks work w
 unfolding windowNumber checkedNumber sizesNumber
 accepted l log marks work w e =
     let a = then-none (listNumber l) _ e in
@@ -41,5 +33,7 @@ accepted l log marks work w e =
       marked = ltb-false marks (rowCount (log .values)) (gives-none (ltb marks (rowCount (log .values))) 9 (m .0));
       some = omega arith;
       narrow = ltb-false 1024 w (v .1);
-      room = ltb-false work (2 * (rowCount (log .values) + w)) (gives-none (ltb work (2 * (rowCount (log .values) + w))) 9 (n .1));
+      room =
+          ltb-false work (2 * (rowCount (log .values) + w))
+          (gives-none (ltb work (2 * (rowCount (log .values) + w))) 9 (n .1));
     }

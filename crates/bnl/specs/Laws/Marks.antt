@@ -1,4 +1,5 @@
--- The machine on a log: its marks are those of the log's best matches, its count fits 32 bits, and over the log's level table it is the same.
+-- The machine on a log: its marks are those of the log's best matches, its count fits 32 bits, and over the log's level
+-- table it is the same.
 use mathlib.Core.Path.{_≡_, refl, sym, ap, _∙_}
 use Prim.Native.Nat.{ℕ, _-_, _≤_, _<_}
 use native.Mathlib.Omega.{arith}
@@ -60,7 +61,8 @@ module _ (l : PreferenceList) (log : Log) where
   pub machine-best : (w : ℕ) → 1 ≤ w → machineOf l log w .marks ≡ marksOf l log
   unfolding machineOf marksOf
   machine-best w pos =
-      machine-marks (rowDominates l log) (competing log) (rowCount (log .values)) (competing-below log) irreflexive (row-transitive l log) w pos
+      machine-marks (rowDominates l log) (competing log) (rowCount (log .values)) (competing-below log) irreflexive
+      (row-transitive l log) w pos
       ∙ joined-cong _ _ (rowCount (log .values)) (λ r h. ap (λ (b : Bool). cond b 1 0 ∷ []) (best-is r h))
 
   -- the count fits 32 bits
@@ -72,10 +74,15 @@ module _ (l : PreferenceList) (log : Log) where
       omega (arith, count-bound (rowDominates l log) w (competing log) (rowCount (log .values)) pos, mul-le-mul n d)
 
   module _ (e : listNumber l ≡ 0) (f : rowsNumber l (log .values) ≡ 0) where
-    table-dominates : (a b : ℕ) → a < rowCount (log .values) → b < rowCount (log .values) → tableDominates (tableOf l (log .values)) a b ≡ rowDominates l log a b
+    table-dominates : (a b : ℕ) → a < rowCount (log .values) → b < rowCount (log .values)
+        → tableDominates (tableOf l (log .values)) a b ≡ rowDominates l log a b
     unfolding tableDominates
     table-dominates a b h j = compared-dominates l log e f a b h j
 
-    pub machine-table : (w : ℕ) → machine (tableDominates (tableOf l (log .values))) w (competing log) (rowCount (log .values)) ≡ machineOf l log w
+    pub machine-table : (w : ℕ)
+        → machine (tableDominates (tableOf l (log .values))) w (competing log) (rowCount (log .values))
+        ≡ machineOf l log w
     unfolding machineOf
-    machine-table w = machine-agree (tableDominates (tableOf l (log .values))) (rowDominates l log) w (rowCount (log .values)) table-dominates (competing log) (competing-below log)
+    machine-table w =
+        machine-agree (tableDominates (tableOf l (log .values))) (rowDominates l log) w
+        (rowCount (log .values)) table-dominates (competing log) (competing-below log)

@@ -1,17 +1,57 @@
 use borrow.Author.Needs.{needs}
 use native.Mathlib.Omega.{arith}
-use Prim.Native.Nat.{_-_}
-use lib.ListN.{length}
+use Prim.Native.Nat.{ℕ, _*_, _≤_, _-_}
+use mathlib.Core.Path.{_≡_, sym, ap, _∙_}
+use mathlib.Core.List.{List}
+use lib.IntN.{ℤ}
+use lib.ListN.{length, take}
+use Rattle.arith.specs.Laws.Local.{num}
+use Rattle.laws.specs.Outcome.{refused}
+use Rattle.runs.specs.Log.{Log, logOf}
+use Rattle.preference.specs.declared.PreferenceList.{PreferenceList}
+use Rattle.pareto.specs.Call.{Call, counting, Leaves}
+use Rattle.pareto.specs.Laws.Call.{never-zero, leaves-told}
+use Rattle.bnl.specs.Engine.{windowCall}
+use Rattle.selection.specs.Selection.{outcomeOf}
+use Rattle.selection.specs.Laws.Stream.{few-numbers, rows-fit, rows-long, unread-leaves, read-leaves}
+use Rattle.console.specs.Flat.{signedOutcome, flatWindowCall}
 use Rattle.console.proofs.shortlist_window.Statement.{statement}
 use Rattle.console.proofs.shortlist_window.Tie as tie
 use Rattle.reader.proofs.read.Reads as read-reads
 use Rattle.selection.proofs.by_window.Reads as by-window-reads
-use Rattle.selection.proofs.minus.Reads as minus-reads
-use mathlib.Core.Path.{sym, _∙_}
-use Rattle.arith.specs.Laws.Local.{num}
-use Rattle.bnl.specs.Engine.{windowNumber}
-use Rattle.selection.specs.Laws.Stream.{few-numbers, rows-fit, rows-long, unread-selects, read-selects}
-use Rattle.console.specs.Flat.{flatWindow}
+use Rattle.console.proofs.signed.Reads as signed-reads
+
+module _ (q : tie.After-read) where
+  abbrev begun : tie.Start
+  begun = q .before .before .before .before
+
+  abbrev stream : List ℕ
+  stream = begun .args .stream .now
+
+  abbrev marks : List ℕ
+  marks = begun .args .marks .now
+
+  -- the log since reading
+  abbrev filled : List ℤ
+  filled = q .read .last .1 .0
+
+  abbrev due : PreferenceList → Log → Call
+  due l log = counting (windowCall l log (length marks) 4096 (begun .args .w))
+
+  -- reading refused the stream
+  unread : (q .read .result .number ≡ 0 → ⊥)
+      → Leaves (flatWindowCall stream (length marks) (begun .args .w)) marks (refused (q .read .result .number)) marks
+  unread = unread-leaves stream (q .read .result) filled (q .read .ensures .0) (q .read .ensures .1) due marks
+
+  module _ (z : q .read .result .number ≡ 0) where
+    few : 8 * q .read .result .rows ≤ 8192
+    few = few-numbers stream (q .read .result) filled (q .read .ensures .0) (q .read .ensures .1) z
+
+    fits : 8 * q .read .result .rows ≤ length filled
+    fits = rows-fit stream (q .read .result) filled (q .read .ensures .0) (q .read .ensures .1) z
+
+    long : length (take (8 * q .read .result .rows) filled) ≡ 8 * q .read .result .rows
+    long = rows-long stream (q .read .result) filled (q .read .ensures .0) (q .read .ensures .1) z
 
 slice-aggregate-read : tie.Need-slice-aggregate-read
 slice-aggregate-read c = search needs
@@ -19,49 +59,46 @@ slice-aggregate-read c = search needs
 read-requires : tie.Need-read-requires
 read-requires c κs = search needs
 
-minus-requires : tie.Need-minus-requires
-minus-requires c κs = search needs
+signed-requires : tie.Need-signed-requires
+signed-requires c κs =
+    let q = c .before .before .before in
+    never-zero (flatWindowCall (stream q) (length (marks q)) (begun q .args .w)) (marks q) _ (marks q) (unread q (c .if1 .taken))
 
 returns : tie.Need-returns
 returns c =
-    let a = c .before .before .before .before .before .before .before .before .args in
-    let read = c .before .before .before .before .read in
-    unfold flatWindow in
-    unread-selects (a .stream .now) (read .result) (read .last .1 .0) (read .ensures .0) (read .ensures .1) (λ l log. windowNumber l log (length (a .marks .now)) 4096 (a .w)) (a .marks .now) _
-    (c .before .if1 .taken) (num (c .minus .result) (c .minus .ok) ∙ c .minus .ensures)
+    let q = c .before .before .before .before in
+    leaves-told (flatWindowCall (stream q) (length (marks q)) (begun q .args .w)) (marks q) _ _ (marks q)
+    (ap signedOutcome (num (c .signed .result) (c .signed .ok)) ∙ c .signed .ensures) (unread q (c .before .if1 .taken))
 
 mul-end : tie.Need-mul-end
-mul-end c =
-    let a = c .before .before .before .before .before .before .before .before .args in
-    let read = c .before .before .before .before .read in
-    omega (arith, few-numbers (a .stream .now) (read .result) (read .last .1 .0) (read .ensures .0) (read .ensures .1) (c .before .if1 .left))
+mul-end c = let q = c .before .before .before .before in omega (arith, few q (c .before .if1 .left))
 
 array-share-prefix-log : tie.Need-array-share-prefix-log
-array-share-prefix-log c =
-    let a = c .before .before .before .before .before .before .before .before .args in
-    let read = c .before .before .before .before .read in
-    rows-fit (a .stream .now) (read .result) (read .last .1 .0) (read .ensures .0) (read .ensures .1) (c .before .if1 .left)
+array-share-prefix-log c = let q = c .before .before .before .before in fits q (c .before .if1 .left)
 
 slice-aggregate-by-window : tie.Need-slice-aggregate-by-window
-slice-aggregate-by-window c =
-    let a = c .before .before .before .before .before .before .before .before .before .args in
-    let read = c .before .before .before .before .before .read in
-    sym (rows-long (a .stream .now) (read .result) (read .last .1 .0) (read .ensures .0) (read .ensures .1) (c .before .before .if1 .left))
+slice-aggregate-by-window c = let q = c .before .before .before .before .before in sym (long q (c .before .before .if1 .left))
 
 by-window-requires : tie.Need-by-window-requires
 by-window-requires c κs = search needs
+
+signed-requires-2 : tie.Need-signed-requires-2
+signed-requires-2 c κs =
+    let by = c .before .before .by-window in
+    let q = c .before .before .before .before .before .before .before .before .before in
+    never-zero (due q (q .read .result .list) (logOf (take (8 * q .read .result .rows) (filled q)))) (marks q) (outcomeOf (by .result)) _ (by .ensures)
 
 same-length : tie.Need-same-length
 same-length c = search needs
 
 returns-2 : tie.Need-returns-2
 returns-2 c =
-    let a = c .before .before .before .before .before .before .before .before .before .before .before .before .before .args in
-    let read = c .before .before .before .before .before .before .before .before .before .read in
-    let by = c .before .before .by-window in
-    unfold flatWindow in
-    read-selects (a .stream .now) (read .result) (read .last .1 .0) (read .ensures .0) (read .ensures .1) (λ l log. windowNumber l log (length (a .marks .now)) 4096 (a .w)) (a .marks .now) _ _
-    (c .before .before .before .before .before .before .if1 .left) (rw (num (by .result) (by .ok)) (by .ensures))
+    let by = c .before .before .before .by-window in
+    let t = c .before .before .before .before .before .before .before in
+    let q = t .before .before .before in
+    read-leaves (stream q) (q .read .result) (filled q) (q .read .ensures .0) (q .read .ensures .1) (due q) (marks q) _ _ (t .if1 .left)
+    (leaves-told (due q (q .read .result .list) (logOf (take (8 * q .read .result .rows) (filled q)))) (marks q) (outcomeOf (by .result)) _ _
+    (ap signedOutcome (num (c .signed2 .result) (c .signed2 .ok)) ∙ c .signed2 .ensures) (by .ensures))
 
 pub shortlist-window-spec : {M : Type 1} → statement M
 shortlist-window-spec =
@@ -69,11 +106,12 @@ shortlist-window-spec =
     (tie.spec
     slice-aggregate-read
     read-requires
-    minus-requires
+    signed-requires
     returns
     mul-end
     array-share-prefix-log
     slice-aggregate-by-window
     by-window-requires
+    signed-requires-2
     same-length
     returns-2)

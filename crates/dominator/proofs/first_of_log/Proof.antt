@@ -51,7 +51,14 @@ module _ (e : tie.After-row-count) where
 
   rows-long : d .competing-rows .result ≤ length rows
   rows-long =
-      omega (arith, start .pre .few, d .competing-rows .ensures .0, competing-few (logOf (start .args .log .now)), d .competing-rows .kept .1 .0, length-replicate {A = ℕ} 1024 0)
+      omega (
+        arith,
+        start .pre .few,
+        d .competing-rows .ensures .0,
+        competing-few (logOf (start .args .log .now)),
+        d .competing-rows .kept .1 .0,
+        length-replicate {A = ℕ} 1024 0,
+      )
 
   rows-are : take (d .competing-rows .result) rows ≡ competing (logOf (start .args .log .now))
   rows-are =

@@ -18,7 +18,7 @@ use Rattle.pareto.specs.Best.{competes, competing, rowDominates, isBest}
 use Rattle.pareto.specs.Checked.{checkedNumber}
 use Rattle.pareto.specs.Laws.Best.{dominated-by-best}
 use Rattle.pareto.specs.Laws.Competing.{every-competes}
-use Rattle.dominator.specs.First.{bestDominates, firstDominator, Accepted}
+use Rattle.dominator.specs.First.{bestDominates, firstDominator, RowAsked}
 use Rattle.dominator.specs.Engine.{dominatorNumber, Answered}
 use Rattle.dominator.specs.declared.DominatorAnswer.the-variants.{Row, Refused}
 
@@ -30,11 +30,13 @@ module _ (l : PreferenceList) (log : Log) (row k : ℕ) (e : k ≡ checkedNumber
   pub no-row : k ≡ 0 → rowCount (log .values) ≤ row → Answered l log row (Refused 12)
   unfolding dominatorNumber Answered _gives_
   no-row z h = record {
-    number = sym (then-next (checkedNumber l log 0) _ (sym e ∙ z) ∙ rw (le-leb (rowCount (log .values)) row h) (then-first 12 (isBest l log row gives 13) (λ y. omega arith)));
+    number =
+        sym (then-next (checkedNumber l log 0) _ (sym e ∙ z)
+        ∙ rw (le-leb (rowCount (log .values)) row h) (then-first 12 (isBest l log row gives 13) (λ y. omega arith)));
     some = λ y. omega arith;
   }
 
-  pub accepted : k ≡ 0 → row < rowCount (log .values) → Accepted l log row
+  pub accepted : k ≡ 0 → row < rowCount (log .values) → RowAsked l log row
   unfolding checkedNumber _then_
   accepted z h =
       let a = then-none (listNumber l) _ (sym e ∙ z) in
@@ -43,10 +45,14 @@ module _ (l : PreferenceList) (log : Log) (row k : ℕ) (e : k ≡ checkedNumber
 
   number-is : k ≡ 0 → row < rowCount (log .values) → dominatorNumber l log row ≡ isBest l log row gives 13
   unfolding dominatorNumber
-  number-is z h = then-next (checkedNumber l log 0) _ (sym e ∙ z) ∙ then-next (leb (rowCount (log .values)) row gives 12) _ (gives-no (leb (rowCount (log .values)) row) 12 (lt-leb (rowCount (log .values)) row h))
+  number-is z h =
+      then-next (checkedNumber l log 0) _ (sym e ∙ z)
+      ∙ then-next (leb (rowCount (log .values)) row gives 12) _
+      (gives-no (leb (rowCount (log .values)) row) 12 (lt-leb (rowCount (log .values)) row h))
 
   -- no best row dominates it, so it is best itself: a row that is not is dominated by a best one
-  pub shortlisted : k ≡ 0 → row < rowCount (log .values) → (s : ℕ) → s ≡ firstDominator l log row → rowCount (log .values) ≤ s → Answered l log row (Refused 13)
+  pub shortlisted : k ≡ 0 → row < rowCount (log .values) → (s : ℕ) → s ≡ firstDominator l log row
+      → rowCount (log .values) ≤ s → Answered l log row (Refused 13)
   unfolding Answered firstDominator
   shortlisted z h s f n = record {
     number = sym (number-is z h ∙ gives-yes (isBest l log row) 13 (itself (isBest l log row) refl));
@@ -58,22 +64,29 @@ module _ (l : PreferenceList) (log : Log) (row k : ℕ) (e : k ≡ checkedNumber
       itself false e =
           let b = dominated-by-best l log row (every-competes log row) e in
           let d : bestDominates l log row (b .best) ≡ true = rw (b .is-best, b .beats) in
-          false-true (sym (first-is (bestDominates l log row) (rowCount (log .values)) .before (b .best) (omega (arith, b .row))) ∙ d)
+          false-true
+          (sym (first-is (bestDominates l log row) (rowCount (log .values)) .before (b .best)
+          (omega (arith, b .row))) ∙ d)
 
-  row-beaten : (best : ℕ) → best < rowCount (log .values) → isBest l log best ≡ true → rowDominates l log best row ≡ true → isBest l log row ≡ false
+  row-beaten : (best : ℕ) → best < rowCount (log .values) → isBest l log best ≡ true
+      → rowDominates l log best row ≡ true → isBest l log row ≡ false
   unfolding isBest competing
   row-beaten best h b d =
       let c = both (competes log best) _ b .0 in
-      rw (passing-any (λ s. rowDominates l log s row) (competes log) (rowCount (log .values)) best h c d) (and-false (competes log row))
+      rw (passing-any (λ s. rowDominates l log s row) (competes log) (rowCount (log .values)) best h c d)
+      (and-false (competes log row))
     where
       and-false : (t : Bool) → t && false ≡ false
       and-false true = refl
       and-false false = refl
 
-  pub beaten : k ≡ 0 → row < rowCount (log .values) → (s : ℕ) → s ≡ firstDominator l log row → s < rowCount (log .values) → Answered l log row (Row s)
+  pub beaten : k ≡ 0 → row < rowCount (log .values) → (s : ℕ) → s ≡ firstDominator l log row
+      → s < rowCount (log .values) → Answered l log row (Row s)
   unfolding Answered firstDominator
   beaten z h s f n =
-      let d = both (isBest l log s) (rowDominates l log s row) (rw f (first-is (bestDominates l log row) (rowCount (log .values)) .there (rw f at n))) in
+      let d =
+      both (isBest l log s) (rowDominates l log s row)
+      (rw f (first-is (bestDominates l log row) (rowCount (log .values)) .there (rw f at n))) in
       record {
         accepted = number-is z h ∙ gives-no (isBest l log row) 13 (row-beaten s n (d .0) (d .1));
         is-row = n;

@@ -1,4 +1,5 @@
--- The search over the competing rows in a log's level table finds the first row of the shortlist that dominates the asked one.
+-- The search over the competing rows in a log's level table finds the first row of the shortlist that dominates the
+-- asked one.
 use mathlib.Core.Path.{_≡_, refl, sym, ap, _∙_}
 use Prim.Native.Nat.{ℕ, zero, suc, _+_, _<_, _≤_}
 use native.Mathlib.Numerals.{add-one}
@@ -19,7 +20,7 @@ use Rattle.preference.specs.declared.PreferenceList.{PreferenceList}
 use Rattle.pareto.specs.Best.{competes, competing, rowDominates, isBest}
 use Rattle.level_table.specs.Table.{tableOf}
 use Rattle.pareto.specs.Laws.Table.{compared-dominates}
-use Rattle.dominator.specs.First.{bestDominates, firstDominator, Accepted, beats, bestBeats, firstOf}
+use Rattle.dominator.specs.First.{bestDominates, firstDominator, RowAsked, beats, bestBeats, firstOf}
 
 -- ---- turns of a loop over a list
 
@@ -36,7 +37,8 @@ module _ (p : ℕ → Bool) (xs : List ℕ) (i : ℕ) where
   unfolding anyOf
   any-end h = rw (drop-of-length-le xs {i = i} h)
 
-  pub first-on : (none : ℕ) → i < length xs → p (getD xs i 0) ≡ false → firstOf p (drop (i + 1) xs) none ≡ firstOf p (drop i xs) none
+  pub first-on : (none : ℕ) → i < length xs → p (getD xs i 0) ≡ false
+      → firstOf p (drop (i + 1) xs) none ≡ firstOf p (drop i xs) none
   unfolding firstOf
   first-on none h e = rw (add-one i, drop-cons xs i 0 h, e)
 
@@ -64,12 +66,14 @@ module _ (p c : ℕ → Bool) where
       go true = refl
       go false = refl
 
-  turned : (n k none : ℕ) (t u : Bool) → ltb k n ≡ t → cond t k (cond u n none) ≡ cond (ltb (cond t k (cond u n (suc n))) (suc n)) (cond t k (cond u n (suc n))) none
+  turned : (n k none : ℕ) (t u : Bool) → ltb k n ≡ t
+      → cond t k (cond u n none) ≡ cond (ltb (cond t k (cond u n (suc n))) (suc n)) (cond t k (cond u n (suc n))) none
   turned n k none true u e = rw (lt-ltb k (suc n) (let q = ltb-true k n e in omega arith))
   turned n k none false true e = rw (lt-ltb n (suc n) (omega arith))
   turned n k none false false e = rw (le-ltb (suc n) (suc n) (omega arith))
 
-  first-passing : (n none : ℕ) → firstOf p (passing c n) none ≡ cond (ltb (firstAt (λ s. c s && p s) n) n) (firstAt (λ s. c s && p s) n) none
+  first-passing : (n none : ℕ)
+      → firstOf p (passing c n) none ≡ cond (ltb (firstAt (λ s. c s && p s) n) n) (firstAt (λ s. c s && p s) n) none
   unfolding joined firstAt
   first-passing zero none = unfold firstOf in refl
   first-passing (suc n) none =
@@ -91,11 +95,14 @@ module _ (p c : ℕ → Bool) where
   any-agree : (q : ℕ → Bool) (n : ℕ) → ((s : ℕ) → s < n → p s ≡ q s) → anyOf p (passing c n) ≡ anyOf q (passing c n)
   any-agree q n h =
       both-ways (anyOf p (passing c n)) (anyOf q (passing c n))
-      (λ e. let f = passing-found p c n e in passing-any q c n (f .at) (f .below) (f .passes) (sym (h (f .at) (f .below)) ∙ f .holds))
-      (λ e. let f = passing-found q c n e in passing-any p c n (f .at) (f .below) (f .passes) (h (f .at) (f .below) ∙ f .holds))
+      (λ e. let f = passing-found p c n e in
+      passing-any q c n (f .at) (f .below) (f .passes) (sym (h (f .at) (f .below)) ∙ f .holds))
+      (λ e. let f = passing-found q c n e in
+      passing-any p c n (f .at) (f .below) (f .passes) (h (f .at) (f .below) ∙ f .holds))
 
-module _ (l : PreferenceList) (log : Log) (row : ℕ) (a : Accepted l log row) where
-  table-beats : (s r : ℕ) → s < rowCount (log .values) → r < rowCount (log .values) → beats (tableOf l (log .values)) s r ≡ rowDominates l log s r
+module _ (l : PreferenceList) (log : Log) (row : ℕ) (a : RowAsked l log row) where
+  table-beats : (s r : ℕ) → s < rowCount (log .values) → r < rowCount (log .values)
+      → beats (tableOf l (log .values)) s r ≡ rowDominates l log s r
   table-beats = compared-dominates l log (a .list) (a .values)
 
   regroup : (c b d : Bool) → (c && (b && d)) ≡ ((c && d) && b)
@@ -108,16 +115,19 @@ module _ (l : PreferenceList) (log : Log) (row : ℕ) (a : Accepted l log row) w
   regroup true false false = refl
   regroup false b d = refl
 
-  best-beats : (s : ℕ) → s < rowCount (log .values) → (competes log s && bestBeats (tableOf l (log .values)) (competing log) row s) ≡ bestDominates l log row s
+  best-beats : (s : ℕ) → s < rowCount (log .values)
+      → (competes log s && bestBeats (tableOf l (log .values)) (competing log) row s) ≡ bestDominates l log row s
   unfolding bestBeats isBest competing
   best-beats s h =
       rw (
         table-beats s row h (a .is-row),
-        any-agree (λ q. beats (tableOf l (log .values)) q s) (competes log) (λ q. rowDominates l log q s) (rowCount (log .values)) (λ q b. table-beats q s b h),
+        any-agree (λ q. beats (tableOf l (log .values)) q s) (competes log) (λ q. rowDominates l log q s)
+            (rowCount (log .values)) (λ q b. table-beats q s b h),
       )
       (regroup (competes log s) (rowDominates l log s row) (not (anyOf (λ q. rowDominates l log q s) (competing log))))
 
-  pub first-in-table : firstOf (bestBeats (tableOf l (log .values)) (competing log) row) (competing log) (rowCount (log .values)) ≡ firstDominator l log row
+  pub first-in-table : firstOf (bestBeats (tableOf l (log .values)) (competing log) row) (competing log)
+      (rowCount (log .values)) ≡ firstDominator l log row
   unfolding firstDominator competing
   first-in-table =
       first-counted (bestBeats (tableOf l (log .values)) (competing log) row) (competes log) (rowCount (log .values))

@@ -1,5 +1,5 @@
--- An accepted stream has at most 34,334 bytes: seven preferences of 22 bytes and a LAYERED one of 4, 64 named values of 6 bytes
--- and 1,024 runs of 33.
+-- An accepted stream has at most 34,334 bytes: seven preferences of 22 bytes and a LAYERED one of 4, 64 named values of
+-- 6 bytes and 1,024 runs of 33.
 use mathlib.Core.Path.{_≡_, refl, sym, ap, _∙_}
 use Prim.Native.Nat.{ℕ, zero, suc, _+_, _-_, _*_, _<_, _≤_}
 use native.Mathlib.Omega.{arith}
@@ -16,18 +16,21 @@ use Rattle.preference.specs.List.{zeroPreference, constructorAt}
 use Rattle.preference.specs.declared.Preference.{Preference}
 use Rattle.preference.specs.declared.PreferenceList.{PreferenceList}
 use Rattle.format.specs.Kinds.{kinds, kindOf, kindByte, classOf, bodyOf}
-use Rattle.format.specs.Read.{constructorOf, preferenceOf, lastConstructor, isLayers, endsLayered, outOfPlace, isUnknown, addPreference, withRecord, step, start, records, readOf}
+use Rattle.format.specs.Read.{constructorOf, preferenceOf, lastConstructor, isLayers, endsLayered, outOfPlace}
+use Rattle.format.specs.Read.{isUnknown, addPreference, withRecord, step, start, records, readOf}
 use Rattle.format.specs.Laws.Kinds.{longest, body-longest}
 use Rattle.format.specs.Midway.{Columns}
 use Rattle.format.specs.Laws.Columns.{columns-zero, columns-few}
-use Rattle.format.specs.Laws.Read.{Accepts, accepts, preference-room, named-room, run-room, going, step-keeps, steps-keep, columns-step}
+use Rattle.format.specs.Laws.Read.{Accepts, accepts, preference-room, named-room, run-room, going, step-keeps}
+use Rattle.format.specs.Laws.Read.{steps-keep, columns-step}
 use Rattle.format.specs.Laws.Accepted.{read-accepted, records-end}
 use Rattle.format.specs.declared.Class.{Class}
 use Rattle.format.specs.declared.Class.the-variants.{Unknown, PreferenceRecord, NamedRecord, RunRecord}
 use Rattle.format.specs.declared.ReadAnswer.{ReadAnswer}
 
 -- a LAYERED record has a body of 3
-layered-short : (k : ℕ) (bs : List ℕ) → kindOf k .class ≡ PreferenceRecord → isLayers (layeringOf (constructorOf k bs)) ≡ true → kindOf k .body ≤ 3
+layered-short : (k : ℕ) (bs : List ℕ) → kindOf k .class ≡ PreferenceRecord
+    → isLayers (layeringOf (constructorOf k bs)) ≡ true → kindOf k .body ≤ 3
 unfolding kindOf kinds constructorOf
 layered-short zero bs e y = absurd (omega (arith, ap longest e))
 layered-short (suc zero) bs e y = false-true y
@@ -52,11 +55,14 @@ record Short (r : ReadAnswer) : Type 0 where
   named : 0 < r .list .namings → r .place + 18 ≤ most r
 
 -- where a list ends LAYERED with the preference that was added, that one is LAYERED
-ends-added : (l : PreferenceList) (p : Preference) → l .count < length (l .preferences) → endsLayered (addPreference l p) ≡ true → isLayers (layeringOf (p .constructor)) ≡ true
+ends-added : (l : PreferenceList) (p : Preference) → l .count < length (l .preferences)
+    → endsLayered (addPreference l p) ≡ true → isLayers (layeringOf (p .constructor)) ≡ true
 unfolding endsLayered
 ends-added l p h y =
     let e : l .count + 1 - 1 ≡ l .count = omega arith in
-    let last : lastConstructor (addPreference l p) ≡ p .constructor = ap (constructorAt (addPreference l p)) e ∙ ap (λ (q : Preference). q .constructor) (getD-set-same (l .preferences) (l .count) p zeroPreference h) in
+    let last : lastConstructor (addPreference l p) ≡ p .constructor =
+    ap (constructorAt (addPreference l p)) e
+    ∙ ap (λ (q : Preference). q .constructor) (getD-set-same (l .preferences) (l .count) p zeroPreference h) in
     rw last at (both (ltb 0 (l .count + 1)) (isLayers (layeringOf (lastConstructor (addPreference l p)))) y .1)
 
 module _ (r : ReadAnswer) (bs : List ℕ) (h : Columns (r .list)) (a : Accepts r bs) (b : Short r) where
@@ -70,7 +76,8 @@ module _ (r : ReadAnswer) (bs : List ℕ) (h : Columns (r .list)) (a : Accepts r
         rows-few = b .rows-few;
         names-few = b .names-few;
         short = omega (arith, b .short);
-        layered = λ y. omega (arith, b .short, layered-short (kindByte bs) bs e (ends-added l (preferenceOf bs) room y));
+        layered =
+            λ y. omega (arith, b .short, layered-short (kindByte bs) bs e (ends-added l (preferenceOf bs) room y));
         named = λ k. omega (arith, b .named k);
       })
 
@@ -119,7 +126,8 @@ kept-step s r h =
       short =
           let bs = drop (r .place) s in
           step-keeps (λ (a : ReadAnswer). a .number ≡ 0 → Short a) s r
-          (λ g e z. with-short r bs (h .columns) (accepts r bs e) (h .short (going s r g .0)) (classOf bs) refl (accepts r bs e .known))
+          (λ g e z. with-short r bs (h .columns) (accepts r bs e) (h .short (going s r g .0)) (classOf bs) refl
+          (accepts r bs e .known))
           (λ k n z. absurd (omega arith))
           (λ g. h .short);
     }
@@ -129,7 +137,14 @@ unfolding endsLayered
 kept-start =
     record {
       columns = columns-zero;
-      short = λ z. record { rows-few = omega arith; names-few = omega arith; short = omega arith; layered = λ y. false-true y; named = λ k. absurd (omega arith) };
+      short =
+          λ z. record {
+            rows-few = omega arith;
+            names-few = omega arith;
+            short = omega arith;
+            layered = λ y. false-true y;
+            named = λ k. absurd (omega arith);
+          };
     }
 
 records-kept : (s : List ℕ) → Kept (records s)
@@ -149,3 +164,6 @@ pub longest-accepted : (s : List ℕ) (room : ℕ) → readOf s room .number ≡
 longest-accepted s room e =
     let z = read-accepted s room e .going-on in
     omega (arith, records-end s z, kept-small (records s) (records-kept s) z)
+
+pub rows-at-most : (s : List ℕ) → records s .number ≡ 0 → records s .rows ≤ 1024
+rows-at-most s z = records-kept s .short z .rows-few

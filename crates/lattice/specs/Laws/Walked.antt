@@ -1,4 +1,5 @@
--- The lattice that the engine walks has all parts of the level vectors. What goes by that cites one of the first three laws.
+-- The lattice that the engine walks has all parts of the level vectors. What goes by that cites one of the first three
+-- laws.
 use mathlib.Core.Path.{_≡_, refl}
 use Prim.Native.Nat.{ℕ, _≤_}
 use lib.ListN.{length}

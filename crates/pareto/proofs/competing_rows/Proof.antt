@@ -46,13 +46,18 @@ loop-again c =
     let e = sym (c .before .row-competes .ensures) in (
       omega arith,
       ⊎-elim
-          (λ w. rw (w .5 ∙ w .2 .ensures, w .6) (listed-one (competes (logOf (a .log .now))) (a .rows .now) (l .r) (l .n) (l .rows) (l .inv .1) (e ∙ w .0 .taken)))
+          (λ w. rw (w .5 ∙ w .2 .ensures, w .6)
+          (listed-one (competes (logOf (a .log .now))) (a .rows .now) (l .r) (l .n) (l .rows) (l .inv .1) (e ∙ w .0 .taken)))
           (λ w. rw (w .1, w .2) (listed-other (competes (logOf (a .log .now))) (a .rows .now) (l .r) (l .n) (l .rows) (l .inv .1) (e ∙ w .0 .left)))
           (c .if1 .came),
     )
 
 same-length : tie.Need-same-length Inv-loop μ-loop
-same-length c = let l = c .before .loop in ap length (l .inv .1 .stored) ∙ length-sets (c .before .before .before .before .args .rows .now) 0 (passing (competes (logOf (c .before .before .before .before .args .log .now))) (l .r))
+same-length c =
+    let l =
+    c .before .loop in
+    ap length (l .inv .1 .stored)
+    ∙ length-sets (c .before .before .before .before .args .rows .now) 0 (passing (competes (logOf (c .before .before .before .before .args .log .now))) (l .r))
 
 returns : tie.Need-returns Inv-loop μ-loop
 unfolding competing

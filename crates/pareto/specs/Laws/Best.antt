@@ -11,8 +11,9 @@ use Rattle.laws.specs.Laws.Bools.{both, false-true}
 use Rattle.runs.specs.Log.{Log, rowCount, rowAt}
 use Rattle.preference.specs.Laws.Parts.{levels-length}
 use Rattle.preference.specs.declared.PreferenceList.{PreferenceList}
-use Rattle.pareto.specs.Best.{competes, competing, vectorAt, rowDominates, isBest}
-use Rattle.pareto.specs.Laws.Dominance.{Pareto, dominates-pareto, pareto-dominates, dominates-transitive, levelSum, dominates-sum}
+use Rattle.pareto.specs.Best.{competes, competing, vectorAt, rowDominates, isBest, BestMatch}
+use Rattle.pareto.specs.Laws.Dominance.{dominates-pareto, pareto-dominates, dominates-transitive, levelSum}
+use Rattle.pareto.specs.Laws.Dominance.{dominates-sum}
 
 module _ (l : PreferenceList) (log : Log) where
   -- all level vectors of a list have one length, so that rows need no condition
@@ -20,9 +21,11 @@ module _ (l : PreferenceList) (log : Log) where
   unfolding vectorAt
   same-length s r = levels-length l (rowAt (log .values) s) ∙ sym (levels-length l (rowAt (log .values) r))
 
-  pub row-transitive : (q s r : ℕ) → rowDominates l log q s ≡ true → rowDominates l log s r ≡ true → rowDominates l log q r ≡ true
+  pub row-transitive : (q s r : ℕ) → rowDominates l log q s ≡ true → rowDominates l log s r ≡ true
+      → rowDominates l log q r ≡ true
   unfolding rowDominates
-  row-transitive q s r = dominates-transitive (vectorAt l log q) (vectorAt l log s) (vectorAt l log r) (same-length q s) (same-length s r)
+  row-transitive q s r =
+      dominates-transitive (vectorAt l log q) (vectorAt l log s) (vectorAt l log r) (same-length q s) (same-length s r)
 
   row-sum : (s r : ℕ) → rowDominates l log s r ≡ true → levelSum (vectorAt l log s) < levelSum (vectorAt l log r)
   unfolding rowDominates
@@ -36,34 +39,36 @@ module _ (l : PreferenceList) (log : Log) where
   unfolding competing
   dominator r = passing-found (λ s. rowDominates l log s r) (competes log) (rowCount (log .values))
 
-  dominated : (r s : ℕ) → s < rowCount (log .values) → competes log s ≡ true → rowDominates l log s r ≡ true → anyOf (λ q. rowDominates l log q r) (competing log) ≡ true
+  dominated : (r s : ℕ) → s < rowCount (log .values) → competes log s ≡ true → rowDominates l log s r ≡ true
+      → anyOf (λ q. rowDominates l log q r) (competing log) ≡ true
   unfolding competing
   dominated r s = passing-any (λ q. rowDominates l log q r) (competes log) (rowCount (log .values)) s
 
   -- ---- 000, Def. 19
 
-  pub record BestMatch (r : ℕ) : Type 0 where
-    pub takes-part : competes log r ≡ true
-    pub undominated : (s : ℕ) → s < rowCount (log .values) → competes log s ≡ true → Pareto (vectorAt l log s) (vectorAt l log r) → ⊥
-
-  pub best-match : (r : ℕ) → isBest l log r ≡ true → BestMatch r
+  pub best-match : (r : ℕ) → isBest l log r ≡ true → BestMatch l log r
   unfolding isBest
   best-match r h =
       let p = both (competes log r) (not (anyOf (λ s. rowDominates l log s r) (competing log))) h in
       record {
         takes-part = p .0;
         undominated = λ s i c d.
-            false-true (sym (not-true (anyOf (λ q. rowDominates l log q r) (competing log)) (p .1)) ∙ dominated r s i c (unfold rowDominates in pareto-dominates (vectorAt l log s) (vectorAt l log r) (same-length s r) d));
+            false-true
+            (sym (not-true (anyOf (λ q. rowDominates l log q r) (competing log)) (p .1))
+            ∙ dominated r s i c
+            (unfold rowDominates in pareto-dominates (vectorAt l log s) (vectorAt l log r) (same-length s r) d));
       }
 
-  none-dominates : (r : ℕ) → BestMatch r → (t : Bool) → anyOf (λ s. rowDominates l log s r) (competing log) ≡ t → t ≡ false
+  none-dominates : (r : ℕ) → BestMatch l log r → (t : Bool) → anyOf (λ s. rowDominates l log s r) (competing log) ≡ t
+      → t ≡ false
   unfolding rowDominates
   none-dominates r b false e = refl
   none-dominates r b true e =
       let d = dominator r e in
-      absurd (b .undominated (d .at) (d .below) (d .passes) (dominates-pareto (vectorAt l log (d .at)) (vectorAt l log r) (same-length (d .at) r) (d .holds)))
+      absurd (b .undominated (d .at) (d .below) (d .passes)
+      (dominates-pareto (vectorAt l log (d .at)) (vectorAt l log r) (same-length (d .at) r) (d .holds)))
 
-  pub match-best : (r : ℕ) → BestMatch r → isBest l log r ≡ true
+  pub match-best : (r : ℕ) → BestMatch l log r → isBest l log r ≡ true
   unfolding isBest
   match-best r b = rw (b .takes-part, none-dominates r b (anyOf (λ s. rowDominates l log s r) (competing log)) refl)
 
@@ -90,11 +95,17 @@ module _ (l : PreferenceList) (log : Log) where
   climb (suc fuel) r d h =
       best-or-more r d
       (λ q. climb fuel r
-      (record { at = q .at; below = q .below; passes = q .passes; holds = row-transitive (q .at) (d .at) r (q .holds) (d .holds) })
+      (record {
+        at = q .at;
+        below = q .below;
+        passes = q .passes;
+        holds = row-transitive (q .at) (d .at) r (q .holds) (d .holds);
+      })
       (omega (arith, row-sum (q .at) (d .at) (q .holds))))
       (anyOf (λ s. rowDominates l log s (d .at)) (competing log)) refl
 
-  not-best : (r : ℕ) → (t : Bool) → anyOf (λ s. rowDominates l log s r) (competing log) ≡ t → true && not t ≡ false → BestDominator r
+  not-best : (r : ℕ) → (t : Bool) → anyOf (λ s. rowDominates l log s r) (competing log) ≡ t → true && not t ≡ false
+      → BestDominator r
   not-best r true e h =
       let d = dominator r e in
       climb (levelSum (vectorAt l log (d .at))) r d (omega arith)

@@ -1,11 +1,13 @@
--- The competing rows. `competes-same` and `every-competes` alone look into what `competes` says; all else holds whichever rows compete.
+-- The competing rows. `competes-same` and `every-competes` alone look into what `competes` says; all else holds
+-- whichever rows compete.
 use mathlib.Core.Path.{_≡_, refl}
 use Prim.Native.Nat.{ℕ, zero, suc, _+_, _<_, _≤_}
 use native.Mathlib.Numerals.{add-one}
 use native.Mathlib.Nat.{zero-add, not-suc-le-zero, le-of-suc-le-suc}
 use native.Mathlib.Omega.{arith}
 use mathlib.Core.Bool.{Bool, true, false, cond}
-use mathlib.Core.List.{List, [], _∷_, _++_, append-nil, List·Memᴰ, List·Memᴰ·head, List·Memᴰ·tail, List·Memᴰ·not-nil, List·Memᴰ·append-cases, List·Memᴰ·eq-of-singleton}
+use mathlib.Core.List.{List, [], _∷_, _++_, append-nil, List·Memᴰ, List·Memᴰ·head, List·Memᴰ·tail, List·Memᴰ·not-nil}
+use mathlib.Core.List.{List·Memᴰ·append-cases, List·Memᴰ·eq-of-singleton}
 use mathlib.Core.Logic.{⊎-elim}
 use lib.ListN.{length, getD, set, take, length-append}
 use lib.Seq.{sets}
@@ -15,7 +17,8 @@ use Rattle.runs.specs.Log.{Log, rowCount, rowAt}
 use Rattle.pareto.specs.Best.{competes, competing}
 
 -- whether a row competes is told by the row
-pub competes-same : (log log′ : Log) (r p : ℕ) → rowAt (log′ .values) p ≡ rowAt (log .values) r → competes log′ p ≡ competes log r
+pub competes-same : (log log′ : Log) (r p : ℕ) → rowAt (log′ .values) p ≡ rowAt (log .values) r
+    → competes log′ p ≡ competes log r
 unfolding competes
 competes-same log log′ r p e = refl
 
@@ -34,7 +37,8 @@ module _ (c : ℕ → Bool) where
   passing-few : (n : ℕ) → length (passing c n) ≤ n
   unfolding joined
   passing-few zero = omega arith
-  passing-few (suc n) = omega (arith, length-append (passing c n) (cond (c n) (n ∷ []) []), one-few (c n) n, passing-few n)
+  passing-few (suc n) =
+      omega (arith, length-append (passing c n) (cond (c n) (n ∷ []) []), one-few (c n) n, passing-few n)
 
   one-below : (b : Bool) (n r : ℕ) → List·Memᴰ r (cond b (n ∷ []) []) → r < suc n
   one-below true n r k = omega (arith, List·Memᴰ·eq-of-singleton k)
@@ -66,7 +70,8 @@ pub competing-at : (log : Log) (i : ℕ) → i < length (competing log) → getD
 competing-at log i h = competing-below log (getD (competing log) i 0) (at-place (competing log) i h)
 
 -- they stand at the front of a list that they were stored in
-pub competing-front : (log : Log) (lent rows : List ℕ) (n : ℕ) → rowCount (log .values) ≤ length lent → n ≡ length (competing log) → rows ≡ sets lent 0 (competing log) → take n rows ≡ competing log
+pub competing-front : (log : Log) (lent rows : List ℕ) (n : ℕ) → rowCount (log .values) ≤ length lent
+    → n ≡ length (competing log) → rows ≡ sets lent 0 (competing log) → take n rows ≡ competing log
 competing-front log lent rows n h e f = rw (e, f) (stored-front lent (competing log) (omega (arith, competing-few log)))
 
 -- ---- the list as it is written, row by row
@@ -94,7 +99,8 @@ module _ (c : ℕ → Bool) (lent : List ℕ) where
         longer = unfold joined in rw (add-one r, e)
 
     pub listed-other : c r ≡ false → Listed c lent (r + 1) n rows
-    listed-other e = record { counted = rw same (s .counted); few = omega (arith, s .few); stored = rw same (s .stored) }
+    listed-other e =
+        record { counted = rw same (s .counted); few = omega (arith, s .few); stored = rw same (s .stored) }
       where
         same : passing c (r + 1) ≡ passing c r
         same = unfold joined in rw (add-one r, e) (append-nil (passing c r))

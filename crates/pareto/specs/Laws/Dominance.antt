@@ -1,4 +1,5 @@
--- Dominance among level vectors of one length is a strict order, lowers the sum of levels (000, Lemma 4), and is what 000, Def. 15 says.
+-- Dominance among level vectors of one length is a strict order, lowers the sum of levels (000, Lemma 4), and is what
+-- 000, Def. 15 says.
 use mathlib.Core.Path.{_≡_, refl, sym, _∙_}
 use Prim.Native.Nat.{ℕ, zero, suc, _+_, _<_, _≤_}
 use native.Mathlib.Omega.{arith}
@@ -10,7 +11,7 @@ use lib.Dec.{leb, ltb}
 use lib.ListN.{length, getD}
 use borrow.Author.Tests.{leb-true, le-leb, ltb-true, lt-ltb}
 use Rattle.laws.specs.Laws.Bools.{both, false-true, either, or-right}
-use Rattle.pareto.specs.Dominance.{noneAbove, someBelow, dominates}
+use Rattle.pareto.specs.Dominance.{noneAbove, someBelow, dominates, Pareto}
 
 -- ---- level by level
 
@@ -35,7 +36,8 @@ module _ where
   below-at [] bs h = false-true h
   below-at (x ∷ a) [] h = false-true h
   below-at (x ∷ a) (y ∷ b) h =
-      ⊎-elim (λ e. (0, ltb-true x y e)) (λ e. let r = below-at a b e in (suc (r .0), r .1)) (either (ltb x y) (someBelow a b) h)
+      ⊎-elim (λ e. (0, ltb-true x y e)) (λ e. let r = below-at a b e in (suc (r .0), r .1))
+      (either (ltb x y) (someBelow a b) h)
 
   pub below-of : (a b : List ℕ) → length a ≡ length b → (k : ℕ) → getD a k 0 < getD b k 0 → someBelow a b ≡ true
   unfolding someBelow
@@ -44,12 +46,6 @@ module _ where
   below-of (x ∷ a) [] l k h = let z : ⊥ = omega arith in absurd z
   below-of (x ∷ a) (y ∷ b) l zero h = rw (lt-ltb x y h)
   below-of (x ∷ a) (y ∷ b) l (suc k) h = or-right (ltb x y) (someBelow a b) (below-of a b (omega arith) k h)
-
--- 000, Def. 15: nowhere a greater level, and somewhere a smaller one
-pub record Pareto (a b : List ℕ) : Type 0 where
-  pub nowhere-above : (k : ℕ) → getD a k 0 ≤ getD b k 0
-  pub somewhere : ℕ
-  pub below-there : getD a somewhere 0 < getD b somewhere 0
 
 pub dominates-pareto : (a b : List ℕ) → length a ≡ length b → dominates a b ≡ true → Pareto a b
 unfolding dominates
@@ -67,7 +63,8 @@ pareto-dominates a b l p = rw (none-of a b (p .nowhere-above), below-of a b l (p
 pub dominates-irreflexive : (a : List ℕ) → dominates a a ≡ true → ⊥
 dominates-irreflexive a h = let p = dominates-pareto a a refl h in lt-irrefl (getD a (p .somewhere) 0) (p .below-there)
 
-pub dominates-transitive : (a b c : List ℕ) → length a ≡ length b → length b ≡ length c → dominates a b ≡ true → dominates b c ≡ true → dominates a c ≡ true
+pub dominates-transitive : (a b c : List ℕ) → length a ≡ length b → length b ≡ length c → dominates a b ≡ true
+    → dominates b c ≡ true → dominates a c ≡ true
 dominates-transitive a b c l m h k =
     let p = dominates-pareto a b l h in
     let q = dominates-pareto b c m k in

@@ -13,10 +13,12 @@ use Rattle.pareto.specs.Best.{isBest, bestMatches, markAt, marksOf, mark
 
 module _ (l : PreferenceList) (log : Log) where
   -- a row's byte is its mark
-  pub mark-there : (bytes : List ℕ) (r : ℕ) → r < rowCount (log .values) → getD (marksAfter l log bytes) r 0 ≡ markAt l log r
+  pub mark-there : (bytes : List ℕ) (r : ℕ) → r < rowCount (log .values)
+      → getD (marksAfter l log bytes) r 0 ≡ markAt l log r
   unfolding marksAfter marksOf
   mark-there bytes r b =
-      List·getD-append (marksOf l log) (drop (rowCount (log .values)) bytes) 0 r (omega (arith, singles-length (markAt l log) (rowCount (log .values))))
+      List·getD-append (marksOf l log) (drop (rowCount (log .values)) bytes) 0 r
+      (omega (arith, singles-length (markAt l log) (rowCount (log .values))))
       ∙ singles-at (markAt l log) (rowCount (log .values)) r b
 
   one-best : (t : Bool) → eqb (cond t 1 0) 1 ≡ t
@@ -27,5 +29,7 @@ module _ (l : PreferenceList) (log : Log) where
   pub marked-best : (bytes : List ℕ) → markedRows (marksAfter l log bytes) (rowCount (log .values)) ≡ bestMatches l log
   unfolding markedRows bestMatches
   marked-best bytes =
-      joined-cong (λ r. cond (eqb (getD (marksAfter l log bytes) r 0) 1) (r ∷ []) []) (λ r. cond (isBest l log r) (r ∷ []) []) (rowCount (log .values))
-      (λ r b. ap (λ (t : Bool). cond t (r ∷ []) []) (ap (λ (k : ℕ). eqb k 1) (mark-there bytes r b) ∙ one-best (isBest l log r)))
+      joined-cong (λ r. cond (eqb (getD (marksAfter l log bytes) r 0) 1) (r ∷ []) [])
+      (λ r. cond (isBest l log r) (r ∷ []) []) (rowCount (log .values))
+      (λ r b. ap (λ (t : Bool). cond t (r ∷ []) [])
+      (ap (λ (k : ℕ). eqb k 1) (mark-there bytes r b) ∙ one-best (isBest l log r)))

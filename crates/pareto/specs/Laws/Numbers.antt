@@ -1,77 +1,136 @@
--- The checks that engines share give numbers up to 10 only.
-use Prim.Native.Nat.{ℕ, zero, suc, _≤_, zero-le}
-use native.Mathlib.Omega.{arith}
-use mathlib.Core.Bool.{Bool, true, false, cond}
-use mathlib.Core.List.{List}
+-- The numbers that checks in order can give: each is 0 or one of a list.
+use mathlib.Core.Path.{_≡_, refl, sym, ap, _∙_}
+use Prim.Native.Nat.{ℕ, zero, suc}
+use mathlib.Core.Bool.{Bool, true, false, cond, _&&_}
+use mathlib.Core.List.{List, [], _∷_}
+use mathlib.Core.Logic.{⊎-elim}
+use lib.Dec.{eqb}
 use lib.IntN.{ℤ}
-use borrow.Author.Needs.{needs}
+use borrow.Author.Tests.{eqb-true, ne-eqb}
 use Rattle.laws.specs.Checks.{_gives_, _then_}
 use Rattle.laws.specs.First.{firstAt, anyBelow, firstNumber, isNumber}
-use Rattle.runs.specs.Log.{Log, logNumber}
+use Rattle.laws.specs.Lists.{anyOf}
+use Rattle.laws.specs.Laws.Bools.{both, either, or-right, false-true}
+use Rattle.runs.specs.Log.{Log, rowAt, logNumber}
 use Rattle.constructor.specs.Level.{layeringOf}
 use Rattle.constructor.specs.Valid.{constructorNumber, layerNumber, numberUnder}
 use Rattle.constructor.specs.declared.Constructor.{Constructor}
 use Rattle.constructor.specs.declared.Layering.{Layering}
 use Rattle.constructor.specs.declared.Layering.the-variants.{Numeric, Layers}
-use Rattle.preference.specs.Valid.{columnNumber, preferenceNumber, namedNumber, listNumber}
+use Rattle.preference.specs.Valid.{columnNumber, preferenceNumber, placeNumber, namedNumber, listNumber}
 use Rattle.preference.specs.Level.{valueNumber}
 use Rattle.preference.specs.Parts.{rowNumber}
 use Rattle.preference.specs.declared.Preference.{Preference}
 use Rattle.preference.specs.declared.PreferenceList.{PreferenceList}
 use Rattle.pareto.specs.Checked.{rowsNumber, checkedNumber}
+use Rattle.pareto.specs.Numbers.{Among, listNumbers, checkedNumbers}
 
--- ---- numbers up to m
+-- ---- membership
 
-pub gives-most : (m : ℕ) (b : Bool) (n : ℕ) → n ≤ m → (b gives n) ≤ m
-unfolding _gives_
-gives-most m true n h = h
-gives-most m false n h = zero-le
+-- every number of the first list is in the second
+unfoldable pub within : List ℕ → List ℕ → Bool
+within [] ns = true
+within (m ∷ ms) ns = anyOf (eqb m) ns && within ms ns
 
-pub then-most : (m a b : ℕ) → a ≤ m → b ≤ m → (a then b) ≤ m
-unfolding _then_
-then-most m zero b h k = k
-then-most m (suc a) b h k = h
+pub wider : (ms ns : List ℕ) (k : ℕ) → within ms ns ≡ true → Among ms k → Among ns k
+unfolding within anyOf
+wider [] ns k w a = false-true a
+wider (m ∷ ms) ns k w a =
+    ⊎-elim
+    (λ (e : eqb k m ≡ true). ap (λ (j : ℕ). anyOf (eqb j) ns) (eqb-true k m e)
+    ∙ both (anyOf (eqb m) ns) (within ms ns) w .0)
+    (λ (b : anyOf (eqb k) ms ≡ true). wider ms ns k (both (anyOf (eqb m) ns) (within ms ns) w .1) b)
+    (either (eqb k m) (anyOf (eqb k) ms) a)
 
-first-most : (m : ℕ) (f : ℕ → ℕ) (n : ℕ) → ((i : ℕ) → f i ≤ m) → firstNumber f n ≤ m
-unfolding firstNumber
-first-most m f n h = go (anyBelow (isNumber f) n)
-  where
-    go : (t : Bool) → cond t (f (firstAt (isNumber f) n)) 0 ≤ m
-    go true = h (firstAt (isNumber f) n)
-    go false = zero-le
+-- a number that is not 0
+pub among-some : (ns : List ℕ) (k : ℕ) → (k ≡ 0 → ⊥) → Among (0 ∷ ns) k → Among ns k
+unfolding anyOf
+among-some ns k h a = rw (ne-eqb k 0 h) at a
 
-constructor-most : (c : Constructor) → constructorNumber c ≤ 10
-unfolding constructorNumber
-constructor-most c = search (needs, gives-most, then-most)
+-- a number that is none of them
+pub not-among : (ns : List ℕ) (k n : ℕ) → anyOf (eqb n) ns ≡ false → Among ns k → k ≡ n → ⊥
+not-among ns k n f a e = false-true (sym f ∙ ap (λ (j : ℕ). anyOf (eqb j) ns) (sym e) ∙ a)
 
-pub layer-most : (c : Constructor) (layer : ℕ) → layerNumber c layer ≤ 10
-unfolding layerNumber
-layer-most c layer = go (layeringOf c)
-  where
-    go : (y : Layering) → numberUnder y layer ≤ 10
-    go Numeric = omega arith
-    go (Layers top others) = gives-most 10 _ 6 (omega arith)
+-- ---- checks in order
 
-pub preference-most : (l : PreferenceList) (n : ℕ) (p : Preference) → preferenceNumber l n p ≤ 10
-unfolding preferenceNumber columnNumber
-preference-most l n p = search (needs, gives-most, then-most, constructor-most)
+module _ (ns : List ℕ) where
+  pub none-among : Among (0 ∷ ns) 0
+  unfolding anyOf
+  none-among = refl
 
-named-most : (l : PreferenceList) (k : ℕ) → namedNumber l k ≤ 10
-unfolding namedNumber
-named-most l k = search (needs, gives-most, then-most, layer-most)
+  pub gives-among : (b : Bool) (n : ℕ) → Among ns n → Among (0 ∷ ns) (b gives n)
+  unfolding _gives_ anyOf
+  gives-among true n h = or-right (eqb n 0) (anyOf (eqb n) ns) h
+  gives-among false n h = refl
 
-pub list-most : (l : PreferenceList) → listNumber l ≤ 10
-unfolding listNumber
-list-most l = search (needs, gives-most, then-most, first-most, preference-most, named-most)
+  pub then-among : (a b : ℕ) → Among (0 ∷ ns) a → Among (0 ∷ ns) b → Among (0 ∷ ns) (a then b)
+  unfolding _then_
+  then-among zero b h k = k
+  then-among (suc a) b h k = h
 
-pub value-most : (l : PreferenceList) (i : ℕ) (v : ℤ) → valueNumber l i v ≤ 10
-unfolding valueNumber
-value-most l i v = search (needs, gives-most)
+  pub first-among : (f : ℕ → ℕ) (n : ℕ) → ((i : ℕ) → Among (0 ∷ ns) (f i)) → Among (0 ∷ ns) (firstNumber f n)
+  unfolding firstNumber
+  first-among f n h = go (anyBelow (isNumber f) n)
+    where
+      go : (t : Bool) → Among (0 ∷ ns) (cond t (f (firstAt (isNumber f) n)) 0)
+      go true = h (firstAt (isNumber f) n)
+      go false = none-among
 
-row-most : (l : PreferenceList) (row : List ℤ) → rowNumber l row ≤ 10
-unfolding rowNumber
-row-most l row = search (needs, first-most, value-most)
+  -- ---- a list, and a log under it
 
-pub checked-most : (l : PreferenceList) (log : Log) (more : ℕ) → more ≤ 10 → checkedNumber l log more ≤ 10
-unfolding checkedNumber logNumber rowsNumber
-checked-most l log more h = search (needs, gives-most, then-most, first-most, list-most, row-most)
+  module _ (five : Among ns 5) (six : Among ns 6) (seven : Among ns 7) where
+    pub preference-among : (l : PreferenceList) (n : ℕ) (p : Preference) → Among (0 ∷ ns) (preferenceNumber l n p)
+    unfolding preferenceNumber columnNumber constructorNumber
+    preference-among l n p =
+        then-among _ _ (then-among _ _ (gives-among _ 5 five) (gives-among _ 5 five))
+        (then-among _ _ (gives-among _ 6 six) (gives-among _ 7 seven))
+
+  module _ (three : Among ns 3) (six : Among ns 6) where
+    pub layer-among : (c : Constructor) (layer : ℕ) → Among (0 ∷ ns) (layerNumber c layer)
+    unfolding layerNumber
+    layer-among c layer = go (layeringOf c)
+      where
+        go : (y : Layering) → Among (0 ∷ ns) (numberUnder y layer)
+        go Numeric = unfold anyOf in three
+        go (Layers top others) = gives-among _ 6 six
+
+    named-among : (l : PreferenceList) (k : ℕ) → Among (0 ∷ ns) (namedNumber l k)
+    unfolding namedNumber
+    named-among l k = then-among _ _ (gives-among _ 3 three) (then-among _ _ (gives-among _ 3 three) (layer-among _ _))
+
+  pub value-among : Among ns 8 → (l : PreferenceList) (i : ℕ) (v : ℤ) → Among (0 ∷ ns) (valueNumber l i v)
+  unfolding valueNumber
+  value-among eight l i v = gives-among _ 8 eight
+
+pub list-among : (l : PreferenceList) → Among (0 ∷ listNumbers) (listNumber l)
+unfolding listNumber anyOf
+list-among l =
+    let ns = listNumbers in
+    then-among ns _ _ (gives-among ns _ 1 refl)
+    (then-among ns _ _ (gives-among ns _ 7 refl)
+    (then-among ns _ _ (first-among ns (placeNumber l) (l .count) (λ i. preference-among ns refl refl refl l i _))
+    (first-among ns (namedNumber l) (l .namings) (named-among ns refl refl l))))
+
+-- from a list's numbers on
+module _ (ns : List ℕ) (more-numbers : within (0 ∷ listNumbers) (0 ∷ ns) ≡ true) where
+  pub list-in : (l : PreferenceList) → Among (0 ∷ ns) (listNumber l)
+  list-in l = wider (0 ∷ listNumbers) (0 ∷ ns) (listNumber l) more-numbers (list-among l)
+
+  -- from those of the log and of what is lent beside it
+  pub checked-in : Among ns 8 → (l : PreferenceList) (log : Log) (more : ℕ) → Among (0 ∷ ns) (logNumber (log .values))
+      → Among (0 ∷ ns) more
+      → Among (0 ∷ ns) (checkedNumber l log more)
+  unfolding checkedNumber rowsNumber rowNumber
+  checked-in eight l log more g h =
+      then-among ns _ _ (list-in l)
+      (then-among ns _ _ g
+      (then-among ns _ _ h (first-among ns _ _ (λ r. first-among ns _ _ (λ i. value-among ns eight l i _)))))
+
+pub log-ten : (ns : List ℕ) → Among ns 10 → (log : Log) → Among (0 ∷ ns) (logNumber (log .values))
+unfolding logNumber
+log-ten ns ten log = gives-among ns _ 10 ten
+
+pub checked-among : (l : PreferenceList) (log : Log) (more : ℕ) → Among (0 ∷ checkedNumbers) more
+    → Among (0 ∷ checkedNumbers) (checkedNumber l log more)
+unfolding within anyOf
+checked-among l log more h = checked-in checkedNumbers refl refl l log more (log-ten checkedNumbers refl log) h

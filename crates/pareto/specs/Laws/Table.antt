@@ -35,38 +35,47 @@ none-not [] (y ∷ w) l = let z : ⊥ = omega arith in absurd z
 none-not (x ∷ v) [] l = let z : ⊥ = omega arith in absurd z
 none-not (x ∷ v) (y ∷ w) l = head (none-not v w (omega arith)) (leb x y) refl
   where
-    head : noneAbove v w ≡ not (someBelow w v) → (t : Bool) → leb x y ≡ t → leb x y && noneAbove v w ≡ not (ltb y x || someBelow w v)
+    head : noneAbove v w ≡ not (someBelow w v) → (t : Bool) → leb x y ≡ t
+        → leb x y && noneAbove v w ≡ not (ltb y x || someBelow w v)
     head h true e = rw (e, le-ltb y x (leb-true x y e)) h
     head h false e = rw (e, lt-ltb y x (leb-false x y e))
 
 -- a lower level stands among the first eight
-some-of-eight : (v w : List ℕ) → length v ≡ length w → length w ≤ 8 → anyBelow (λ k. ltb (getD v k 0) (getD w k 0)) 8 ≡ someBelow v w
+some-of-eight : (v w : List ℕ) → length v ≡ length w → length w ≤ 8
+    → anyBelow (λ k. ltb (getD v k 0) (getD w k 0)) 8 ≡ someBelow v w
 some-of-eight v w l h =
     both-ways (anyBelow (λ k. ltb (getD v k 0) (getD w k 0)) 8) (someBelow v w)
-    (λ e. let f = any-found (λ k. ltb (getD v k 0) (getD w k 0)) 8 e in below-of v w l (f .0) (ltb-true (getD v (f .0) 0) (getD w (f .0) 0) (f .2)))
+    (λ e. let f = any-found (λ k. ltb (getD v k 0) (getD w k 0)) 8 e in
+    below-of v w l (f .0) (ltb-true (getD v (f .0) 0) (getD w (f .0) 0) (f .2)))
     (λ e.
     let f = below-at v w e in
-    any-at (λ k. ltb (getD v k 0) (getD w k 0)) 8 (f .0) (inside (f .0) (f .1) (decLt (f .0) 8)) (lt-ltb (getD v (f .0) 0) (getD w (f .0) 0) (f .1)))
+    any-at (λ k. ltb (getD v k 0) (getD w k 0)) 8 (f .0) (inside (f .0) (f .1) (decLt (f .0) 8))
+    (lt-ltb (getD v (f .0) 0) (getD w (f .0) 0) (f .1)))
   where
     inside : (k : ℕ) → getD v k 0 < getD w k 0 → Dec (k < 8) → k < 8
     inside k s (yes q) = q
-    inside k s (no q) = let e : length w ≤ k = omega arith in let z : ⊥ = omega (arith, List·getD-eq-default w 0 e) in absurd z
+    inside k s (no q) =
+        let e : length w ≤ k = omega arith in let z : ⊥ = omega (arith, List·getD-eq-default w 0 e) in absurd z
 
 -- ---- the table
 
 module _ (l : PreferenceList) (log : List ℤ) (e : listNumber l ≡ 0) (f : rowsNumber l log ≡ 0) where
-  pub table-at : (a k : ℕ) → a < rowCount log → k < 8 → getD (tableOf l log) (8 * a + k) 0 ≡ getD (levels l (rowAt log a)) k 0
+  pub table-at : (a k : ℕ) → a < rowCount log → k < 8
+      → getD (tableOf l log) (8 * a + k) 0 ≡ getD (levels l (rowAt log a)) k 0
   unfolding rowsNumber
   table-at a k h j = table-levels l log e a (number-zero (λ r. rowNumber l (rowAt log r)) (rowCount log) f a h) k h j
 
   rows-tabled : length (tableOf l log) / 8 ≡ rowCount log
   rows-tabled = omega (arith, table-long l log, table-rows l log)
 
-  lower-some : (a b : ℕ) → a < rowCount log → b < rowCount log → anyBelow (lower (tableOf l log) (8 * a) (8 * b)) 8 ≡ someBelow (levels l (rowAt log a)) (levels l (rowAt log b))
+  lower-some : (a b : ℕ) → a < rowCount log → b < rowCount log
+      → anyBelow (lower (tableOf l log) (8 * a) (8 * b)) 8 ≡ someBelow (levels l (rowAt log a)) (levels l (rowAt log b))
   lower-some a b h j =
-      any-cong (lower (tableOf l log) (8 * a) (8 * b)) (λ k. ltb (getD (levels l (rowAt log a)) k 0) (getD (levels l (rowAt log b)) k 0)) 8
+      any-cong (lower (tableOf l log) (8 * a) (8 * b))
+      (λ k. ltb (getD (levels l (rowAt log a)) k 0) (getD (levels l (rowAt log b)) k 0)) 8
       (λ k q. rw (table-at a k h q, table-at b k j q))
-      ∙ some-of-eight (levels l (rowAt log a)) (levels l (rowAt log b)) (levels-length l (rowAt log a) ∙ sym (levels-length l (rowAt log b)))
+      ∙ some-of-eight (levels l (rowAt log a)) (levels l (rowAt log b))
+      (levels-length l (rowAt log a) ∙ sym (levels-length l (rowAt log b)))
       (omega (arith, levels-length l (rowAt log b), parts-few l))
 
 -- the first dominates exactly where row a dominates row b

@@ -1,5 +1,5 @@
--- "places past the counts .. are no part of the list": two lists with the same counts and the same counted places are refused
--- alike, and have the same levels.
+-- "places past the counts .. are no part of the list": two lists with the same counts and the same counted places are
+-- refused alike, and have the same levels.
 use mathlib.Core.Path.{_≡_, refl, ap, _∙_}
 use Prim.Native.Nat.{ℕ, _-_, _<_, min}
 use native.Mathlib.Omega.{arith}
@@ -20,18 +20,14 @@ use Rattle.constructor.specs.declared.Constructor.{Constructor}
 use Rattle.constructor.specs.declared.Layering.{Layering}
 use Rattle.constructor.specs.declared.Layering.the-variants.{Numeric, Layers}
 use Rattle.preference.specs.List.{preferenceAt, constructorAt, namedAt, places, names}
-use Rattle.preference.specs.Valid.{hasColumn, columnNumber, preferenceNumber, placeNumber, namedNumber, listNumber}
+use Rattle.preference.specs.Same.{Same}
+use Rattle.preference.specs.Valid.{hasColumn, columnNumber, preferenceNumber, placeNumber, namedNumber}
+use Rattle.preference.specs.Valid.{listNumber}
 use Rattle.preference.specs.Level.{isNamed, layerOf, levelUnder, levelAt, maxAt, valueNumber}
 use Rattle.preference.specs.Parts.{rowValue, levelParts, maxParts, levels, maxLevels, rowNumber}
 use Rattle.preference.specs.declared.Preference.{Preference}
 use Rattle.preference.specs.declared.Named.{Named}
 use Rattle.preference.specs.declared.PreferenceList.{PreferenceList}
-
-pub record Same (l m : PreferenceList) : Type 0 where
-  pub counts : l .count ≡ m .count
-  pub naming-counts : l .namings ≡ m .namings
-  pub places-same : (i : ℕ) → i < l .count → preferenceAt l i ≡ preferenceAt m i
-  pub named-same : (k : ℕ) → k < l .namings → namedAt l k ≡ namedAt m k
 
 module _ (l m : PreferenceList) (s : Same l m) where
   constructor-same : (i : ℕ) → i < l .count → constructorAt l i ≡ constructorAt m i
@@ -55,13 +51,16 @@ module _ (l m : PreferenceList) (s : Same l m) where
       ≡ t gives 3 then x then layerNumber (constructorAt m (n .preference)) (n .layer)
   unfolding _gives_ _then_
   owner-same n x true e = refl
-  owner-same n x false e = ap (λ (c : Constructor). x then layerNumber c (n .layer)) (constructor-same (n .preference) (leb-false (l .count) (n .preference) e))
+  owner-same n x false e =
+      ap (λ (c : Constructor). x then layerNumber c (n .layer))
+      (constructor-same (n .preference) (leb-false (l .count) (n .preference) e))
 
   named-number-same : (k : ℕ) → k < l .namings → namedNumber l k ≡ namedNumber m k
   unfolding namedNumber
   named-number-same k h =
       rw (s .named-same k h, s .named-same (k - 1) (omega arith))
-      (owner-same (namedAt m k) (ltb (namedAt m k .preference) (namedAt m (k - 1) .preference) gives 3) (leb (l .count) (namedAt m k .preference)) refl
+      (owner-same (namedAt m k) (ltb (namedAt m k .preference) (namedAt m (k - 1) .preference) gives 3)
+      (leb (l .count) (namedAt m k .preference)) refl
       ∙ rw (s .counts))
 
   pub number-same : listNumber l ≡ listNumber m
@@ -79,21 +78,25 @@ module _ (l m : PreferenceList) (s : Same l m) where
   held-name : (k : ℕ) → k < names l → namedAt l k ≡ namedAt m k
   held-name k h = s .named-same k (lt-of-lt-of-le h (min-le-left (l .namings) 64))
 
-  layer-at-same : (k others : ℕ) (t : Bool) → ltb k (names l) ≡ t → cond t (namedAt l k .layer) others ≡ cond t (namedAt m k .layer) others
+  layer-at-same : (k others : ℕ) (t : Bool) → ltb k (names l) ≡ t
+      → cond t (namedAt l k .layer) others ≡ cond t (namedAt m k .layer) others
   layer-at-same k others true e = ap (λ (n : Named). n .layer) (held-name k (ltb-true k (names l) e))
   layer-at-same k others false e = refl
 
   layer-same : (i : ℕ) (v : ℤ) (others : ℕ) → layerOf l i v others ≡ layerOf m i v others
   unfolding layerOf
   layer-same i v others =
-      let e = first-cong (isNamed l i v) (isNamed m i v) (names l) (λ k h. ap (λ (n : Named). eqb (n .preference) i && eqZ (n .value) v) (held-name k h)) in
+      let e =
+      first-cong (isNamed l i v) (isNamed m i v) (names l)
+      (λ k h. ap (λ (n : Named). eqb (n .preference) i && eqZ (n .value) v) (held-name k h)) in
       let k = firstAt (isNamed m i v) (names l) in
       rw e (layer-at-same k others (ltb k (names l)) refl ∙ rw names-same)
 
   pub level-same : (i : ℕ) (v : ℤ) → i < l .count → levelAt l i v ≡ levelAt m i v
   unfolding levelAt
   level-same i v h =
-      ap (λ (c : Constructor). levelUnder l i v (layeringOf c)) (constructor-same i h) ∙ under (layeringOf (constructorAt m i))
+      ap (λ (c : Constructor). levelUnder l i v (layeringOf c)) (constructor-same i h)
+      ∙ under (layeringOf (constructorAt m i))
     where
       under : (y : Layering) → levelUnder l i v y ≡ levelUnder m i v y
       under Numeric = ap (λ (c : Constructor). numericLevel c v) (constructor-same i h)
@@ -123,7 +126,9 @@ module _ (l m : PreferenceList) (s : Same l m) where
 
   pub max-levels-same : maxLevels l ≡ maxLevels m
   unfolding maxLevels maxAt
-  max-levels-same = joined-cong (maxParts l) (maxParts m) (places l) (λ i h. ap (λ (c : Constructor). maxLevel c ∷ []) (constructor-same i (held-place i h))) ∙ rw places-held
+  max-levels-same =
+      joined-cong (maxParts l) (maxParts m) (places l)
+      (λ i h. ap (λ (c : Constructor). maxLevel c ∷ []) (constructor-same i (held-place i h))) ∙ rw places-held
 
   pub row-number-same : (row : List ℤ) → rowNumber l row ≡ rowNumber m row
   unfolding rowNumber

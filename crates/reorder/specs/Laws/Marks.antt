@@ -23,12 +23,14 @@ module _ (l : PreferenceList) (log log′ : Log) (place origin : ℕ → ℕ) (h
   unfolding vectorAt
   vector-same r b = ap (levels l) (h .same-row r b)
 
-  dominates-same : (s r : ℕ) → s < rowCount (log .values) → r < rowCount (log .values) → rowDominates l log′ (place s) (place r) ≡ rowDominates l log s r
+  dominates-same : (s r : ℕ) → s < rowCount (log .values) → r < rowCount (log .values)
+      → rowDominates l log′ (place s) (place r) ≡ rowDominates l log s r
   unfolding rowDominates
   dominates-same s r a b = ap₂ dominates (vector-same s a) (vector-same r b)
 
   -- what dominates a row of the second log stands in the first
-  found-before : (r : ℕ) → r < rowCount (log .values) → Found (λ s. rowDominates l log′ s (place r)) (competes log′) (rowCount (log′ .values))
+  found-before : (r : ℕ) → r < rowCount (log .values)
+      → Found (λ s. rowDominates l log′ s (place r)) (competes log′) (rowCount (log′ .values))
       → anyOf (λ s. rowDominates l log s r) (competing log) ≡ true
   unfolding competing
   found-before r b f =
@@ -36,11 +38,13 @@ module _ (l : PreferenceList) (log log′ : Log) (place origin : ℕ → ℕ) (h
       let o = h .origin-below (f .at) p in
       let e = h .place-origin (f .at) p in
       passing-any (λ s. rowDominates l log s r) (competes log) (rowCount (log .values)) (origin (f .at)) o
-      (sym (competes-same log log′ (origin (f .at)) (place (origin (f .at))) (h .same-row (origin (f .at)) o)) ∙ ap (competes log′) e ∙ f .passes)
+      (sym (competes-same log log′ (origin (f .at)) (place (origin (f .at))) (h .same-row (origin (f .at)) o))
+      ∙ ap (competes log′) e ∙ f .passes)
       (sym (dominates-same (origin (f .at)) r o b) ∙ ap (λ (s : ℕ). rowDominates l log′ s (place r)) e ∙ f .holds)
 
   -- and what dominates a row of the first stands in the second
-  found-after : (r : ℕ) → r < rowCount (log .values) → Found (λ s. rowDominates l log s r) (competes log) (rowCount (log .values))
+  found-after : (r : ℕ) → r < rowCount (log .values)
+      → Found (λ s. rowDominates l log s r) (competes log) (rowCount (log .values))
       → anyOf (λ s. rowDominates l log′ s (place r)) (competing log′) ≡ true
   unfolding competing
   found-after r b f =
@@ -49,11 +53,17 @@ module _ (l : PreferenceList) (log log′ : Log) (place origin : ℕ → ℕ) (h
       (competes-same log log′ (f .at) (place (f .at)) (h .same-row (f .at) (f .below)) ∙ f .passes)
       (dominates-same (f .at) r (f .below) b ∙ f .holds)
 
-  any-same : (r : ℕ) → r < rowCount (log .values) → anyOf (λ s. rowDominates l log′ s (place r)) (competing log′) ≡ anyOf (λ s. rowDominates l log s r) (competing log)
+  any-same : (r : ℕ) → r < rowCount (log .values)
+      → anyOf (λ s. rowDominates l log′ s (place r)) (competing log′)
+      ≡ anyOf (λ s. rowDominates l log s r) (competing log)
   any-same r b =
-      both-ways (anyOf (λ s. rowDominates l log′ s (place r)) (competing log′)) (anyOf (λ s. rowDominates l log s r) (competing log))
-      (λ e. found-before r b (unfold competing in passing-found (λ s. rowDominates l log′ s (place r)) (competes log′) (rowCount (log′ .values)) e))
-      (λ e. found-after r b (unfold competing in passing-found (λ s. rowDominates l log s r) (competes log) (rowCount (log .values)) e))
+      both-ways (anyOf (λ s. rowDominates l log′ s (place r)) (competing log′))
+      (anyOf (λ s. rowDominates l log s r) (competing log))
+      (λ e. found-before r b
+      (unfold competing in
+      passing-found (λ s. rowDominates l log′ s (place r)) (competes log′) (rowCount (log′ .values)) e))
+      (λ e. found-after r b
+      (unfold competing in passing-found (λ s. rowDominates l log s r) (competes log) (rowCount (log .values)) e))
 
   best-same : (r : ℕ) → r < rowCount (log .values) → isBest l log′ (place r) ≡ isBest l log r
   unfolding isBest
@@ -67,7 +77,11 @@ module _ (l : PreferenceList) (log log′ : Log) (place origin : ℕ → ℕ) (h
 
   pub marks-same : (r : ℕ) → r < rowCount (log .values) → getD (marksOf l log′) (place r) 0 ≡ getD (marksOf l log) r 0
   unfolding marksOf
-  marks-same r b = singles-at (markAt l log′) (rowCount (log′ .values)) (place r) (placed r b) ∙ mark-same r b ∙ sym (singles-at (markAt l log) (rowCount (log .values)) r b)
+  marks-same r b =
+      singles-at (markAt l log′) (rowCount (log′ .values)) (place r) (placed r b) ∙ mark-same r b
+      ∙ sym (singles-at (markAt l log) (rowCount (log .values)) r b)
 
-  pub marks-after-same : (bytes bytes′ : List ℕ) (r : ℕ) → r < rowCount (log .values) → getD (marksAfter l log′ bytes′) (place r) 0 ≡ getD (marksAfter l log bytes) r 0
-  marks-after-same bytes bytes′ r b = mark-there l log′ bytes′ (place r) (placed r b) ∙ mark-same r b ∙ sym (mark-there l log bytes r b)
+  pub marks-after-same : (bytes bytes′ : List ℕ) (r : ℕ) → r < rowCount (log .values)
+      → getD (marksAfter l log′ bytes′) (place r) 0 ≡ getD (marksAfter l log bytes) r 0
+  marks-after-same bytes bytes′ r b =
+      mark-there l log′ bytes′ (place r) (placed r b) ∙ mark-same r b ∙ sym (mark-there l log bytes r b)

@@ -1,26 +1,36 @@
--- The program reads 65,536 bytes: what it prints of a longer stream is the report of the whole one.
+-- The program reads so many bytes of a stream that what it prints of their report is that of the whole stream: no
+-- record begins behind byte 34,334, and none has more than 33 bytes.
 use mathlib.Core.Path.{_≡_, sym, ap, _∙_}
-use Prim.Native.Nat.{ℕ, _≤_}
+use Prim.Native.Nat.{ℕ, _<_, _≤_}
 use native.Mathlib.Omega.{arith}
+use native.Mathlib.Decide.{decLt}
 use mathlib.Core.List.{List}
 use lib.ListN.{length, take}
+use lib.Seq.{take-all}
 use borrow.Author.Tests.{ne-eqb}
 use Rattle.laws.specs.Laws.Checks.{then-first}
 use Rattle.format.specs.Read.{readOf}
 use Rattle.format.specs.Laws.Cut.{read-cut, cut-refused}
 use Rattle.format.specs.declared.ReadAnswer.{ReadAnswer}
-use Rattle.selection.specs.Stream.{afterReading}
 use Rattle.lines.specs.Lines.{refusedText}
-use Rattle.report.specs.Report.{textOf, reportNumber, reportOf}
+use Rattle.report.specs.Report.{textOf, reportOf}
 
 -- a stream that cannot be read is reported by its number
 refused-report : (s : List ℕ) → (readOf s 8192 .number ≡ 0 → ⊥) → reportOf s ≡ refusedText (readOf s 8192 .number)
-unfolding reportOf reportNumber afterReading textOf
+unfolding reportOf textOf
 refused-report s h = rw (then-first (readOf s 8192 .number) _ h, ne-eqb (readOf s 8192 .number) 0 h)
 
-pub report-cut : (s : List ℕ) → 65536 ≤ length s → reportOf (take 65536 s) ≡ reportOf s
-report-cut s long =
-    let late : 34367 ≤ 65536 = omega arith in
-    let same : readOf (take 65536 s) 8192 .number ≡ readOf s 8192 .number = ap (λ (r : ReadAnswer). r .number) (read-cut s 65536 late long 8192) in
-    let refused = cut-refused s 65536 late long 8192 in
-    refused-report (take 65536 s) refused ∙ ap refusedText same ∙ sym (refused-report s (λ z. refused (same ∙ z)))
+cut-longer : (n : ℕ) (s : List ℕ) → 34367 ≤ n → n ≤ length s → reportOf (take n s) ≡ reportOf s
+cut-longer n s late long =
+    let same : readOf (take n s) 8192 .number ≡ readOf s 8192 .number =
+    ap (λ (r : ReadAnswer). r .number) (read-cut s n late long 8192) in
+    let refused = cut-refused s n late long 8192 in
+    refused-report (take n s) refused ∙ ap refusedText same ∙ sym (refused-report s (λ z. refused (same ∙ z)))
+
+-- a stream that is cut there, or ends before
+pub report-cut : (n : ℕ) (s : List ℕ) → 34367 ≤ n → reportOf (take n s) ≡ reportOf s
+report-cut n s late = go (decLt (length s) n)
+  where
+    go : Dec (length s < n) → reportOf (take n s) ≡ reportOf s
+    go (yes q) = ap reportOf (take-all n s (omega arith))
+    go (no q) = cut-longer n s late (omega arith)

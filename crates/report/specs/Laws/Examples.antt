@@ -1,5 +1,6 @@
--- Texts computed from the definitions. Document 01, "Harbour log and marked cases": "Given all this as a stream, `shortlist` prints" five lines;
--- and two examples of its table of numbers: "empty stream", "Harbour log, 1,001 cubic metres".
+-- Texts computed from the definitions. Document 01, "Harbour log and marked cases": "Given all this as a stream,
+-- `shortlist` prints" five lines; and two examples of its table of numbers: "empty stream", "Harbour log, 1,001 cubic
+-- metres".
 use Prim.Native.Nat.{ℕ}
 use mathlib.Core.Path.{_≡_, refl}
 use mathlib.Core.List.{List, [], _∷_, _++_}
@@ -16,25 +17,28 @@ use Rattle.preference.specs.Parts.{levels, maxLevels, rowNumber}
 use Rattle.runs.specs.Log.{logNumber}
 use Rattle.word.specs.Word.{wordAt, intAt, wordBytes}
 use Rattle.format.specs.Kinds.{kinds, kindOf}
-use Rattle.format.specs.Read.{constructorOf, intsAt, endsLayered, outOfPlace, figuresNumber, recordNumber, withRecord, takeRecord, step, steps, records, endNumber, finish, readOf, valuesFrom, valuesOf}
+use Rattle.format.specs.Read.{constructorOf, intsAt, endsLayered, outOfPlace, figuresNumber, recordNumber, withRecord}
+use Rattle.format.specs.Read.{takeRecord, step, steps, records, endNumber, finish, readOf, valuesFrom, valuesOf}
 use Rattle.pareto.specs.Dominance.{noneAbove, someBelow, dominates}
 use Rattle.pareto.specs.Best.{competes, competing, vectorAt, rowDominates, isBest, bestMatches}
 use Rattle.pareto.specs.Checked.{rowsNumber, checkedNumber}
-use Rattle.nodes.specs.Lattice.{nodeCount, nodeId, levelsOf, held, dominatedNode, reached, edgesFrom, edges, crossedAt, crossings}
+use Rattle.nodes.specs.Lattice.{nodeCount, nodeId, levelsOf, held, dominatedNode, reached, edgesFrom, edges, crossedAt}
+use Rattle.nodes.specs.Lattice.{crossings}
 use Rattle.lattice.specs.Walked.{latticeTops, latticeRow, latticeRows}
 use Rattle.lattice.specs.Engine.{latticeNumber}
-use Rattle.selection.specs.Selected.{eitherNumber}
-use Rattle.selection.specs.Stream.{afterReading}
+use Rattle.selection.specs.Selection.{eitherNumber}
 use Rattle.text.specs.Text.{decimalBy, decimal, sign, signed}
 use Rattle.lines.specs.Lines.{refusedText, headText, fieldsText, lineText}
-use Rattle.report.specs.Report.{linesText, textOf, reportNumber, reportOf}
+use Rattle.report.specs.Report.{linesText, textOf, reportOf}
 
 -- a run of hours, cubic metres and density, the rest 0
 abbrev run : ℕ → ℕ → ℕ → List ℕ
 run hours metres density =
-    7 ∷ wordBytes hours ++ wordBytes metres ++ wordBytes density ++ wordBytes 0 ++ wordBytes 0 ++ wordBytes 0 ++ wordBytes 0 ++ wordBytes 0
+    7 ∷ wordBytes hours ++ wordBytes metres ++ wordBytes density ++ wordBytes 0 ++ wordBytes 0 ++ wordBytes 0
+    ++ wordBytes 0 ++ wordBytes 0
 
--- most cubic metres, 0 to 1,000 by 100; density near 1,250, 1,000 to 1,600 by 50; five runs, the second of so many cubic metres
+-- most cubic metres, 0 to 1,000 by 100; density near 1,250, 1,000 to 1,600 by 50; five runs, the second of so many
+-- cubic metres
 abbrev pub harbourWith : ℕ → List ℕ
 harbourWith metres =
     2 ∷ 1 ∷ 0 ∷ 0 ∷ 0 ∷ 0 ∷ 232 ∷ 3 ∷ 0 ∷ 0 ∷ 100 ∷ 0 ∷ 0 ∷ 0 ∷ []
@@ -58,6 +62,14 @@ printed =
 abbrev refusedBy : ℕ → List ℕ
 refusedBy figure = 114 ∷ 101 ∷ 102 ∷ 117 ∷ 115 ∷ 101 ∷ 100 ∷ 32 ∷ figure ∷ 10 ∷ []
 
-pub examples : (reportOf (harbourWith 1000) ≡ printed) × (reportOf (harbourWith 1001) ≡ refusedBy 56) × (reportOf [] ≡ refusedBy 49)
-unfolding reportOf textOf linesText reportNumber refusedText headText fieldsText lineText decimalBy decimal sign signed afterReading eitherNumber latticeTops latticeRow latticeRows latticeNumber checkedNumber rowsNumber logNumber nodeCount nodeId levelsOf held dominatedNode reached edgesFrom edges crossedAt crossings noneAbove someBelow dominates competes competing vectorAt rowDominates isBest bestMatches readOf valuesFrom valuesOf finish endNumber records steps step takeRecord withRecord recordNumber intsAt wordAt intAt wordBytes kindOf kinds endsLayered outOfPlace figuresNumber constructorOf columnNumber preferenceNumber namedNumber listNumber layerOf levelAt maxAt valueNumber levelNumber levels maxLevels rowNumber distance inside maxLevel sound constructorNumber layerNumber gap ceilDiv joined anyOf firstAt anyBelow firstNumber _gives_ _then_
+pub examples : (reportOf (harbourWith 1000) ≡ printed) × (reportOf (harbourWith 1001) ≡ refusedBy 56)
+    × (reportOf [] ≡ refusedBy 49)
+unfolding reportOf textOf linesText refusedText headText fieldsText lineText decimalBy decimal sign signed eitherNumber
+    latticeTops latticeRow latticeRows latticeNumber checkedNumber rowsNumber logNumber nodeCount nodeId levelsOf held
+    dominatedNode reached edgesFrom edges crossedAt crossings noneAbove someBelow dominates competes competing vectorAt
+    rowDominates isBest bestMatches readOf valuesFrom valuesOf finish endNumber records steps step takeRecord withRecord
+    recordNumber intsAt wordAt intAt wordBytes kindOf kinds endsLayered outOfPlace figuresNumber constructorOf
+    columnNumber preferenceNumber namedNumber listNumber layerOf levelAt maxAt valueNumber levelNumber levels maxLevels
+    rowNumber distance inside maxLevel sound constructorNumber layerNumber gap ceilDiv joined anyOf firstAt anyBelow
+    firstNumber _gives_ _then_
 examples = (refl, refl, refl)

@@ -1,4 +1,5 @@
--- What was read of a list that was written: some of its preferences, and the named values that stand before the next record.
+-- What was read of a list that was written: some of its preferences, and the named values that stand before the next
+-- record.
 use mathlib.Core.Path.{_≡_, refl, sym, ap, _∙_}
 use Prim.Native.Nat.{ℕ, zero, suc, _+_, _-_, _*_, _<_, _≤_}
 use native.Mathlib.Omega.{arith}
@@ -10,10 +11,11 @@ use Rattle.preference.specs.List.{preferenceAt, namedAt}
 use Rattle.preference.specs.Laws.Valid as lists
 use Rattle.preference.specs.declared.PreferenceList.{PreferenceList}
 use Rattle.format.specs.Read.{zeroList, addPreference, addNamed}
-use Rattle.preference.specs.Laws.Counted.{Same}
+use Rattle.preference.specs.Same.{Same}
 use Rattle.roundtrip.specs.Laws.Added.{preference-new, preference-old, named-new, named-old}
 
--- ---- where a named value stands among the records: after the preference that it belongs to, and after the named values before it
+-- ---- where a named value stands among the records: after the preference that it belongs to, and after the named
+-- values before it
 
 abbrev pub rank : PreferenceList → ℕ → ℕ
 rank l k = 64 * namedAt l k .preference + k
@@ -22,7 +24,8 @@ rank-parts : (o k i n : ℕ) → k < 64 → n < 64 → 64 * o + k ≡ 64 * i + n
 rank-parts o k i n k-small n-small e = (omega arith, omega arith)
 
 -- the rank that named value n would have under preference i is no other's
-pub rank-other : (l : PreferenceList) (i n k : ℕ) → l .namings ≤ 64 → n < l .namings → k < l .namings → (namedAt l n .preference ≡ i → ⊥) → rank l k ≡ 64 * i + n → ⊥
+pub rank-other : (l : PreferenceList) (i n k : ℕ) → l .namings ≤ 64 → n < l .namings → k < l .namings
+    → (namedAt l n .preference ≡ i → ⊥) → rank l k ≡ 64 * i + n → ⊥
 rank-other l i n k few n-in k-in other e =
     let s = rank-parts (namedAt l k .preference) k i n (omega arith) (omega arith) e in
     other (ap (λ (j : ℕ). namedAt l j .preference) (sym (s .1)) ∙ s .0)
@@ -71,13 +74,17 @@ module _ (l m : PreferenceList) (i q : ℕ) (h : Part l i q m) where
   part-preference room =
       let p = preferenceAt l i in
       let fits : m .count < length (m .preferences) = omega (arith, h .places, h .count-is) in
-      let new : preferenceAt (addPreference m p) i ≡ p = ap (preferenceAt (addPreference m p)) (sym (h .count-is)) ∙ preference-new m p fits in
-      let old : (j : ℕ) → j < i → preferenceAt (addPreference m p) j ≡ preferenceAt l j = λ j k. preference-old m p j (omega (arith, h .count-is)) ∙ h .preferences-same j k in
+      let new : preferenceAt (addPreference m p) i ≡ p =
+      ap (preferenceAt (addPreference m p)) (sym (h .count-is)) ∙ preference-new m p fits in
+      let old : (j : ℕ) → j < i → preferenceAt (addPreference m p) j ≡ preferenceAt l j =
+      λ j k. preference-old m p j (omega (arith, h .count-is)) ∙ h .preferences-same j k in
       record {
         places = length-set (m .preferences) (m .count) p ∙ h .places;
         names = h .names;
         count-is = omega (arith, h .count-is);
-        preferences-same = λ j k. below-more (λ (j : ℕ). preferenceAt (addPreference m p) j ≡ preferenceAt l j) i old new j (omega arith);
+        preferences-same =
+            λ j k. below-more (λ (j : ℕ). preferenceAt (addPreference m p) j ≡ preferenceAt l j) i old new j
+            (omega arith);
         named-same = h .named-same;
         namings-in = h .namings-in;
         behind = h .behind;
@@ -85,7 +92,8 @@ module _ (l m : PreferenceList) (i q : ℕ) (h : Part l i q m) where
       }
 
   -- the same named values have a rank below q′
-  part-moved : (q′ : ℕ) → ((k : ℕ) → k < m .namings → rank l k < q′) → ((k : ℕ) → m .namings ≤ k → k < l .namings → q′ ≤ rank l k) → Part l i q′ m
+  part-moved : (q′ : ℕ) → ((k : ℕ) → k < m .namings → rank l k < q′)
+      → ((k : ℕ) → m .namings ≤ k → k < l .namings → q′ ≤ rank l k) → Part l i q′ m
   part-moved q′ f g =
       record {
         places = h .places;
@@ -110,7 +118,8 @@ module _ (l m : PreferenceList) (i q : ℕ) (h : Part l i q m) where
     part-next = elim (decLt k (m .namings)) [
       | yes y ↦ absurd (omega (arith, h .behind k y))
       | no y ↦ elim (decLt (m .namings) k) [
-        | yes z ↦ absurd (omega (arith, h .ahead (m .namings) (omega arith) (omega arith), rank-rises l a (m .namings) k z k-in))
+        | yes z ↦ absurd
+            (omega (arith, h .ahead (m .namings) (omega arith) (omega arith), rank-rises l a (m .namings) k z k-in))
         | no z ↦ omega (arith, y, z)
       ]
     ]
@@ -120,8 +129,10 @@ module _ (l m : PreferenceList) (i q : ℕ) (h : Part l i q m) where
         let e = namedAt l k in
         let n = part-next in
         let fits : m .namings < length (m .named) = omega (arith, h .names, a .few-named) in
-        let new : namedAt (addNamed m e) (m .namings) ≡ namedAt l (m .namings) = named-new m e fits ∙ ap (namedAt l) (sym n) in
-        let old : (j : ℕ) → j < m .namings → namedAt (addNamed m e) j ≡ namedAt l j = λ j o. named-old m e j o ∙ h .named-same j o in
+        let new : namedAt (addNamed m e) (m .namings) ≡ namedAt l (m .namings) =
+        named-new m e fits ∙ ap (namedAt l) (sym n) in
+        let old : (j : ℕ) → j < m .namings → namedAt (addNamed m e) j ≡ namedAt l j =
+        λ j o. named-old m e j o ∙ h .named-same j o in
         record {
           places = h .places;
           names = length-set (m .named) (m .namings) e ∙ h .names;
@@ -129,20 +140,35 @@ module _ (l m : PreferenceList) (i q : ℕ) (h : Part l i q m) where
           preferences-same = h .preferences-same;
           named-same = below-more (λ (j : ℕ). namedAt (addNamed m e) j ≡ namedAt l j) (m .namings) old new;
           namings-in = omega arith;
-          behind = below-more (λ (j : ℕ). rank l j < suc q) (m .namings) (λ j o. omega (arith, h .behind j o)) (rw n (omega arith));
+          behind =
+              below-more (λ (j : ℕ). rank l j < suc q) (m .namings) (λ j o. omega (arith, h .behind j o))
+              (rw n (omega arith));
           ahead = λ j o p. omega (arith, rank-rises l a k j (omega arith) p);
         }
 
 -- the named values of preference i were read: those of later ones follow
-pub part-after : (l m : PreferenceList) (i : ℕ) → l .namings ≤ 64 → Part l (suc i) (64 * i + l .namings) m → Part l (suc i) (64 * suc i) m
+pub part-after : (l m : PreferenceList) (i : ℕ) → l .namings ≤ 64 → Part l (suc i) (64 * i + l .namings) m
+    → Part l (suc i) (64 * suc i) m
 part-after l m i few h =
-    part-moved l m (suc i) (64 * i + l .namings) h (64 * suc i) (λ k n. omega (arith, h .behind k n)) (λ k n o. omega (arith, h .ahead k n o))
+    part-moved l m (suc i) (64 * i + l .namings) h (64 * suc i) (λ k n. omega (arith, h .behind k n))
+    (λ k n o. omega (arith, h .ahead k n o))
 
 -- every preference and every named value was read
 pub part-whole : (l m : PreferenceList) → lists.Accepted l → Part l (l .count) (64 * l .count) m → Same l m
 part-whole l m a h =
     let all : m .namings ≡ l .namings = elim (decLt (m .namings) (l .namings)) [
-      | yes y ↦ absurd (omega (arith, h .ahead (m .namings) (omega arith) y, a .each-named (m .namings) y .owner-counted, a .few-named))
+      | yes y ↦ absurd
+          (omega (
+            arith,
+            h .ahead (m .namings) (omega arith) y,
+            a .each-named (m .namings) y .owner-counted,
+            a .few-named,
+          ))
       | no y ↦ omega (arith, y, h .namings-in)
     ] in
-    record { counts = sym (h .count-is); naming-counts = sym all; places-same = λ i n. sym (h .preferences-same i n); named-same = λ k n. sym (h .named-same k (omega arith)) }
+    record {
+      counts = sym (h .count-is);
+      naming-counts = sym all;
+      places-same = λ i n. sym (h .preferences-same i n);
+      named-same = λ k n. sym (h .named-same k (omega arith));
+    }

@@ -27,17 +27,20 @@ use Rattle.runs.specs.Log.{rowCount, rowAt, logNumber}
 use Rattle.runs.specs.Laws.Log as logs
 use Rattle.word.specs.Word.{wordBytes, intBytes}
 use Rattle.format.specs.Kinds.{kinds, kindOf}
-use Rattle.format.specs.Read.{namedOf, lastConstructor, isLayers, endsLayered, outOfPlace, namingNumber, figuresNumber, addPreference, addNamed, withRecord, start, readOf}
-use Rattle.format.specs.Write.{kindFor, constructorBytes, preferenceBytes, namedBytes, intsBytes, runBytes, namedBytesOf, preferencePart, rowBytes, streamOf}
+use Rattle.format.specs.Read.{namedOf, lastConstructor, isLayers, endsLayered, outOfPlace, namingNumber, figuresNumber}
+use Rattle.format.specs.Read.{addPreference, addNamed, withRecord, start, readOf}
+use Rattle.format.specs.Write.{kindFor, constructorBytes, preferenceBytes, namedBytes, intsBytes, runBytes}
+use Rattle.format.specs.Write.{namedBytesOf, preferencePart, rowBytes, streamOf}
 use Rattle.format.specs.Laws.Lengths.{constructor-long, kind-class, named-long, ints-long}
 use Rattle.format.specs.Laws.Read.{Accepts}
 use Rattle.format.specs.declared.ReadAnswer.{ReadAnswer}
 use Rattle.roundtrip.specs.Terms.{LogFits, Fits, ReadsAs}
-use Rattle.preference.specs.Laws.Counted.{Same}
+use Rattle.preference.specs.Same.{Same}
 use Rattle.roundtrip.specs.Laws.Added.{preference-number-same}
 use Rattle.roundtrip.specs.Laws.Checks.{preference-none}
 use Rattle.roundtrip.specs.Laws.Codec.{preference-back, named-back, run-back}
-use Rattle.roundtrip.specs.Laws.Part.{rank, rank-other, Part, part-none, part-preference, part-skip, part-next, part-named, part-after, part-whole}
+use Rattle.roundtrip.specs.Laws.Part.{rank, rank-other, Part, part-none, part-preference, part-skip, part-next}
+use Rattle.roundtrip.specs.Laws.Part.{part-named, part-after, part-whole}
 use Rattle.roundtrip.specs.Laws.Reads.{Reads, reads-none, reads-more, reads-answer, reads-values}
 
 -- ---- the preferences and the named values are read
@@ -48,10 +51,12 @@ record Reading (l : PreferenceList) (i q : ℕ) (x : List ℕ) : Type 0 where
   rows-none : answer .rows ≡ 0
   part : Part l i q (answer .list)
 
-moved : (l : PreferenceList) (i q q′ : ℕ) (x : List ℕ) (h : Reading l i q x) → Part l i q′ (h .answer .list) → Reading l i q′ x
+moved : (l : PreferenceList) (i q q′ : ℕ) (x : List ℕ) (h : Reading l i q x) → Part l i q′ (h .answer .list)
+    → Reading l i q′ x
 moved l i q q′ x h p = record { answer = h .answer; reads = h .reads; rows-none = h .rows-none; part = p }
 
-reading-of : (l : PreferenceList) (i : ℕ) {q q′ : ℕ} {x y : List ℕ} → q ≡ q′ → x ≡ y → Reading l i q x → Reading l i q′ y
+reading-of : (l : PreferenceList) (i : ℕ) {q q′ : ℕ} {x y : List ℕ} → q ≡ q′ → x ≡ y → Reading l i q x
+    → Reading l i q′ y
 reading-of l i e d h = rw (e, d) at h
 
 layered : (y : Layering) (layer : ℕ) → numberUnder y layer ≡ 0 → isLayers y ≡ true
@@ -69,9 +74,12 @@ module _ (l : PreferenceList) (log : List ℤ) (f : Fits l log) (a : lists.Accep
         record {
           known = rw y;
           placed = rw y (le-ltb 0 (h .answer .rows) (omega (arith, h .rows-none)));
-          whole = omega (arith, constructor-long (p .constructor), length-append (constructorBytes (p .constructor)) rest);
+          whole =
+              omega (arith, constructor-long (p .constructor), length-append (constructorBytes (p .constructor)) rest);
           figures = rw (y, preference-back p rest (f .constructors i))
-              (ap (λ (n : ℕ). preferenceNumber m n p) (h .part .count-is) ∙ preference-number-same l m i p (h .part .preferences-same) ∙ preference-none l i p (a .each-place i i-in));
+              (ap (λ (n : ℕ). preferenceNumber m n p) (h .part .count-is)
+              ∙ preference-number-same l m i p (h .part .preferences-same)
+              ∙ preference-none l i p (a .each-place i i-in));
         }
 
     read-preference : Reading l (suc i) q (x ++ preferenceBytes (preferenceAt l i))
@@ -81,23 +89,34 @@ module _ (l : PreferenceList) (log : List ℤ) (f : Fits l log) (a : lists.Accep
         let k = kindFor (p .constructor) in
         let y = kind-class (p .constructor) in
         let r = h .answer in
-        let next : ReadAnswer = record { number = 0; place = r .place + (1 + kindOf k .body); rows = r .rows; list = addPreference (r .list) p } in
+        let next : ReadAnswer =
+        record {
+          number = 0;
+          place = r .place + (1 + kindOf k .body);
+          rows = r .rows;
+          list = addPreference (r .list) p;
+        } in
         record {
           answer = next;
-          reads = reads-more x [] r (h .reads) k (p .column ∷ constructorBytes (p .constructor)) (constructor-long (p .constructor)) next [] preference-accepts
+          reads =
+              reads-more x [] r (h .reads) k (p .column ∷ constructorBytes (p .constructor))
+              (constructor-long (p .constructor)) next [] preference-accepts
               (λ rest. rw (y, preference-back p rest (f .constructors i))) (λ rest. rw y);
           rows-none = h .rows-none;
           part = part-preference l (r .list) i q (h .part) (omega (arith, a .few));
         }
 
-  module _ (i q : ℕ) (x : List ℕ) (h : Reading l (suc i) q x) (k : ℕ) (k-in : k < l .namings) (k-rank : rank l k ≡ q) (k-owner : namedAt l k .preference ≡ i) where
+  module _ (i q : ℕ) (x : List ℕ) (h : Reading l (suc i) q x) (k : ℕ) (k-in : k < l .namings) (k-rank : rank l k ≡ q)
+      (k-owner : namedAt l k .preference ≡ i) where
     -- it belongs to the preference that was read last
     count-before : h .answer .list .count - 1 ≡ namedAt l k .preference
     count-before = omega (arith, h .part .count-is)
 
     last-same : lastConstructor (h .answer .list) ≡ constructorAt l (namedAt l k .preference)
     last-same =
-        ap (constructorAt (h .answer .list)) count-before ∙ ap (λ (p : Preference). p .constructor) (h .part .preferences-same (namedAt l k .preference) (omega arith))
+        ap (constructorAt (h .answer .list)) count-before
+        ∙ ap (λ (p : Preference). p .constructor)
+        (h .part .preferences-same (namedAt l k .preference) (omega arith))
 
     named-accepts : (rest : List ℕ) → Accepts (h .answer) (namedBytes (namedAt l k) ++ rest)
     unfolding namedBytes intBytes wordBytes kindOf kinds outOfPlace endsLayered figuresNumber namingNumber layerNumber
@@ -106,12 +125,21 @@ module _ (l : PreferenceList) (log : List ℤ) (f : Fits l log) (a : lists.Accep
         let e = namedAt l k in
         let n = a .each-named k k-in .layer-none in
         let some = lt-ltb 0 (m .count) (omega (arith, h .part .count-is)) in
-        let few = lt-leb 64 (m .namings) (omega (arith, part-next l m (suc i) q (h .part) a k k-in k-rank, a .few-named)) in
+        let few =
+        lt-leb 64 (m .namings) (omega (arith, part-next l m (suc i) q (h .part) a k k-in k-rank, a .few-named)) in
         record {
           known = refl;
-          placed = rw (le-ltb 0 (h .answer .rows) (omega (arith, h .rows-none)), some, last-same, layered (layeringOf (constructorAt l (e .preference))) (e .layer) n);
+          placed =
+              rw (
+                le-ltb 0 (h .answer .rows) (omega (arith, h .rows-none)),
+                some,
+                last-same,
+                layered (layeringOf (constructorAt l (e .preference))) (e .layer) n,
+              );
           whole = omega arith;
-          figures = then-next (layerNumber (lastConstructor m) (e .layer)) _ (ap (λ (c : Constructor). layerNumber c (e .layer)) last-same ∙ n) ∙ gives-no _ 7 few;
+          figures =
+              then-next (layerNumber (lastConstructor m) (e .layer)) _
+              (ap (λ (c : Constructor). layerNumber c (e .layer)) last-same ∙ n) ∙ gives-no _ 7 few;
         }
 
     read-named : Reading l (suc i) (suc q) (x ++ namedBytes (namedAt l k))
@@ -119,17 +147,24 @@ module _ (l : PreferenceList) (log : List ℤ) (f : Fits l log) (a : lists.Accep
     read-named =
         let e = namedAt l k in
         let r = h .answer in
-        let withNamed : Named → ReadAnswer = λ d. record { number = 0; place = r .place + 6; rows = r .rows; list = addNamed (r .list) d } in
+        let withNamed : Named → ReadAnswer =
+        λ d. record { number = 0; place = r .place + 6; rows = r .rows; list = addNamed (r .list) d } in
         record {
           answer = withNamed e;
-          reads = reads-more x [] r (h .reads) 6 (intBytes (e .value) ++ e .layer ∷ []) (omega (arith, named-long e)) (withNamed e) [] named-accepts
-              (λ rest. ap withNamed (ap (λ (j : ℕ). namedOf j (namedBytes e ++ rest)) count-before ∙ named-back e rest (f .values k))) (λ rest. refl);
+          reads =
+              reads-more x [] r (h .reads) 6 (intBytes (e .value) ++ e .layer ∷ []) (omega (arith, named-long e))
+              (withNamed e) [] named-accepts
+              (λ rest. ap withNamed
+              (ap (λ (j : ℕ). namedOf j (namedBytes e ++ rest)) count-before ∙ named-back e rest (f .values k)))
+              (λ rest. refl);
           rows-none = h .rows-none;
           part = part-named l (r .list) (suc i) q (h .part) a k k-in k-rank;
         }
 
   -- named value n, where it belongs to preference i
-  read-one : (i n : ℕ) (x : List ℕ) → n < l .namings → (b : Bool) → eqb (namedAt l n .preference) i ≡ b → Reading l (suc i) (64 * i + n) x → Reading l (suc i) (suc (64 * i + n)) (x ++ cond b (namedBytes (namedAt l n)) [])
+  read-one : (i n : ℕ) (x : List ℕ) → n < l .namings → (b : Bool) → eqb (namedAt l n .preference) i ≡ b
+      → Reading l (suc i) (64 * i + n) x
+      → Reading l (suc i) (suc (64 * i + n)) (x ++ cond b (namedBytes (namedAt l n)) [])
   read-one i n x n-in true e h =
       let o = eqb-true (namedAt l n .preference) i e in
       read-named i (64 * i + n) x h n n-in (ap (λ (j : ℕ). 64 * j + n) o) o
@@ -137,10 +172,12 @@ module _ (l : PreferenceList) (log : List ℤ) (f : Fits l log) (a : lists.Accep
       let q = 64 * i + n in
       rw (append-nil x)
       (moved l (suc i) q (suc q) x h
-      (part-skip l (h .answer .list) (suc i) q (h .part) (λ k k-in. rank-other l i n k (a .few-named) n-in k-in (eqb-false (namedAt l n .preference) i e))))
+      (part-skip l (h .answer .list) (suc i) q (h .part)
+      (λ k k-in. rank-other l i n k (a .few-named) n-in k-in (eqb-false (namedAt l n .preference) i e))))
 
   -- the named values of preference i among the first n
-  read-names : (i : ℕ) (x : List ℕ) (n : ℕ) → n ≤ l .namings → Reading l (suc i) (64 * i) x → Reading l (suc i) (64 * i + n) (x ++ joined (namedBytesOf l i) n)
+  read-names : (i : ℕ) (x : List ℕ) (n : ℕ) → n ≤ l .namings → Reading l (suc i) (64 * i) x
+      → Reading l (suc i) (64 * i + n) (x ++ joined (namedBytesOf l i) n)
   unfolding joined
   read-names i x zero n-in h = reading-of l (suc i) (omega arith) (sym (append-nil x)) h
   read-names i x (suc n) n-in h =
@@ -157,7 +194,8 @@ module _ (l : PreferenceList) (log : List ℤ) (f : Fits l log) (a : lists.Accep
       let h = read-preference n (64 * n) x (read-parts n (omega arith)) n-in in
       let g = read-names n (x ++ p) (l .namings) (omega arith) h in
       reading-of l (suc n) refl (append-assoc x p (joined (namedBytesOf l n) (l .namings)))
-      (moved l (suc n) (64 * n + l .namings) (64 * suc n) _ g (part-after l (g .answer .list) n (a .few-named) (g .part)))
+      (moved l (suc n) (64 * n + l .namings) (64 * suc n) _ g
+      (part-after l (g .answer .list) n (a .few-named) (g .part)))
 
 -- ---- the runs are read
 
@@ -167,16 +205,19 @@ record ReadingRuns (l : PreferenceList) (log : List ℤ) (n : ℕ) (x : List ℕ
   rows-are : answer .rows ≡ n
   same : Same l (answer .list)
 
-runs-of : (l : PreferenceList) (log : List ℤ) (n : ℕ) {x y : List ℕ} → x ≡ y → ReadingRuns l log n x → ReadingRuns l log n y
+runs-of : (l : PreferenceList) (log : List ℤ) (n : ℕ) {x y : List ℕ} → x ≡ y → ReadingRuns l log n x
+    → ReadingRuns l log n y
 runs-of l log n e h = rw e at h
 
 row-fits : (log : List ℤ) (n : ℕ) → LogFits log → LogFits (rowAt log n)
 row-fits log n f j = elim (decLt j 8) [
   | yes h ↦ rw (getD-take 8 (drop (8 * n) log) j (pos 0) h, getD-drop (8 * n) log j (pos 0)) (f (8 * n + j))
-  | no h ↦ (let k : length (rowAt log n) ≤ j = omega (arith, h, length-take 8 (drop (8 * n) log)) in rw (List·getD-eq-default (rowAt log n) (pos 0) k) (record { sfits = omega arith }))
+  | no h ↦ (let k : length (rowAt log n) ≤ j = omega (arith, h, length-take 8 (drop (8 * n) log)) in
+      rw (List·getD-eq-default (rowAt log n) (pos 0) k) (record { sfits = omega arith }))
 ]
 
-module _ (l : PreferenceList) (log : List ℤ) (some : 0 < l .count) (fits : LogFits log) (few : rowCount log ≤ 1024) where
+module _ (l : PreferenceList) (log : List ℤ) (some : 0 < l .count) (fits : LogFits log)
+    (few : rowCount log ≤ 1024) where
   module _ (n : ℕ) (n-in : n < rowCount log) (x : List ℕ) (h : ReadingRuns l log n x) where
     run-accepts : (rest : List ℕ) → Accepts (h .answer) (runBytes (rowAt log n) ++ rest)
     unfolding runBytes kindOf kinds outOfPlace figuresNumber
@@ -185,7 +226,13 @@ module _ (l : PreferenceList) (log : List ℤ) (some : 0 < l .count) (fits : Log
         record {
           known = refl;
           placed = ne-eqb (r .list .count) 0 (λ e. absurd (omega (arith, h .same .counts)));
-          whole = omega (arith, length-append (intsBytes (rowAt log n)) rest, ints-long (rowAt log n), logs.row-long log n n-in);
+          whole =
+              omega (
+                arith,
+                length-append (intsBytes (rowAt log n)) rest,
+                ints-long (rowAt log n),
+                logs.row-long log n n-in,
+              );
           figures = gives-no _ 7 (lt-leb 1024 (r .rows) (omega (arith, h .rows-are)));
         }
 
@@ -200,30 +247,47 @@ module _ (l : PreferenceList) (log : List ℤ) (some : 0 < l .count) (fits : Log
         let values : take (8 * n) log ++ vs ≡ take (8 * suc n) log = rw (← eight) (sym (take-add (8 * n) 8 log)) in
         record {
           answer = next;
-          reads = rw values at (reads-more x (take (8 * n) log) r (h .reads) 7 (intsBytes vs) (omega (arith, ints-long vs)) next vs run-accepts (λ rest. refl) (λ rest. run-back vs rest long (row-fits log n fits)));
+          reads =
+              rw values at
+              (reads-more x (take (8 * n) log) r (h .reads) 7 (intsBytes vs)
+              (omega (arith, ints-long vs)) next vs run-accepts (λ rest. refl)
+              (λ rest. run-back vs rest long (row-fits log n fits)));
           rows-are = omega (arith, h .rows-are);
           same = h .same;
         }
 
-  read-rows : (x : List ℕ) → ReadingRuns l log 0 x → (n : ℕ) → n ≤ rowCount log → ReadingRuns l log n (x ++ joined (rowBytes log) n)
+  read-rows : (x : List ℕ) → ReadingRuns l log 0 x → (n : ℕ) → n ≤ rowCount log
+      → ReadingRuns l log n (x ++ joined (rowBytes log) n)
   unfolding joined
   read-rows x h zero n-in = runs-of l log 0 (sym (append-nil x)) h
   read-rows x h (suc n) n-in =
       let y = joined (rowBytes log) n in
-      runs-of l log (suc n) (append-assoc x y (rowBytes log n)) (read-run n n-in (x ++ y) (read-rows x h n (omega arith)))
+      runs-of l log (suc n) (append-assoc x y (rowBytes log n))
+      (read-run n n-in (x ++ y) (read-rows x h n (omega arith)))
 
-pub read-back : (l : PreferenceList) (log : List ℤ) (room : ℕ) → Fits l log → listNumber l ≡ 0 → logNumber log ≡ 0 → length log ≤ room → ReadsAs (streamOf l log) room l log
+pub read-back : (l : PreferenceList) (log : List ℤ) (room : ℕ) → Fits l log → listNumber l ≡ 0 → logNumber log ≡ 0
+    → length log ≤ room → ReadsAs (streamOf l log) room l log
 unfolding streamOf
 read-back l log room f e d fits =
     let a = lists.accepted l e in
     let b = logs.accepted log d in
     let g = read-parts l log f a (l .count) (omega arith) in
-    let begun : ReadingRuns l log 0 (joined (preferencePart l) (l .count)) = record { answer = g .answer; reads = g .reads; rows-are = g .rows-none; same = part-whole l (g .answer .list) a (g .part) } in
-    let h = read-rows l log (a .some) (f .numbers) (b .few) (joined (preferencePart l) (l .count)) begun (rowCount log) (omega arith) in
+    let begun : ReadingRuns l log 0 (joined (preferencePart l) (l .count)) =
+    record {
+      answer = g .answer;
+      reads = g .reads;
+      rows-are = g .rows-none;
+      same = part-whole l (g .answer .list) a (g .part);
+    } in
+    let h =
+    read-rows l log (a .some) (f .numbers) (b .few) (joined (preferencePart l) (l .count)) begun (rowCount log)
+    (omega arith) in
     let s = streamOf l log in
     let v = take (8 * rowCount log) log in
     let r = h .answer in
-    let answer : readOf s room ≡ r = reads-answer s v r (h .reads) room (omega (arith, a .some, h .same .counts)) (omega (arith, b .eights, h .rows-are)) in
+    let answer : readOf s room ≡ r =
+    reads-answer s v r (h .reads) room (omega (arith, a .some, h .same .counts))
+    (omega (arith, b .eights, h .rows-are)) in
     record {
       number = ap (λ (y : ReadAnswer). y .number) answer ∙ h .reads .going;
       place = ap (λ (y : ReadAnswer). y .place) answer ∙ h .reads .place;

@@ -1,21 +1,50 @@
 use borrow.Author.Needs.{needs}
-use Prim.Native.Nat.{ℕ, _-_}
-use mathlib.Core.Path.{_≡_}
-use lib.ListN.{length}
+use Prim.Native.Nat.{ℕ, _≤_, _-_}
+use mathlib.Core.Path.{_≡_, sym, ap, _∙_}
+use mathlib.Core.List.{List}
+use lib.ListN.{length, replicate, length-replicate}
+use Rattle.laws.specs.Outcome.{accepted, refused}
+use Rattle.runs.specs.Log.{logOf, rowCount}
+use Rattle.pareto.specs.Call.{Call, Leaves}
+use Rattle.pareto.specs.Laws.Call.{accepted-leaves, leaves-told, accepted-counts, refused-counts}
+use Rattle.lattice.specs.Engine.{latticeCall, outcomeOf}
+use Rattle.lattice.specs.declared.LatticeAnswer.the-variants.{Crossed, Refused}
+use Rattle.selection.specs.Laws.Engines.{lattice-few, own-nodes}
 use Rattle.selection.proofs.by_lattice.Statement.{statement}
 use Rattle.selection.proofs.by_lattice.Tie as tie
 use Rattle.lattice.proofs.run.Reads as run-reads
 use Rattle.selection.proofs.count_marked.Reads as count-marked-reads
-use Rattle.selection.proofs.minus.Reads as minus-reads
-use mathlib.Core.Path.{_∙_}
-use lib.ListN.{replicate, length-replicate}
-use Rattle.arith.specs.Laws.Local.{num}
-use Rattle.runs.specs.Log.{logOf}
-use Rattle.selection.specs.Laws.Engines.{crossed-few, crossed-selects, lattice-refuses}
 
 -- the node bytes are 32,768 zeros
 zeros : length {A = ℕ} (replicate 32768 0) ≡ 32768
 zeros = length-replicate {A = ℕ} 32768 0
+
+module _ (r : tie.After-run) where
+  abbrev begun : tie.Start
+  begun = r .before .before .before .before
+
+  abbrev call : Call
+  call = latticeCall (begun .args .list) (logOf (begun .args .log .now)) (length (begun .args .marks .now)) 32768 (begun .args .budget)
+
+  abbrev marks : List ℕ
+  marks = begun .args .marks .now
+
+  abbrev after : List ℕ
+  after = r .run .last .1 .1 .0
+
+  left : Leaves call marks (outcomeOf (r .run .result)) after
+  left = own-nodes _ _ marks after _ _ (begun .args .budget) zeros (r .run .ensures .0)
+
+  accepts : (n : ℕ) → r .run .result ≡ Crossed n → Leaves call marks (accepted n) after
+  accepts n e = leaves-told call marks _ (accepted n) after (sym (ap outcomeOf e)) left
+
+  refuses : (k : ℕ) → r .run .result ≡ Refused k → Leaves call marks (refused k) after
+  refuses k e = leaves-told call marks _ (refused k) after (sym (ap outcomeOf e)) left
+
+  few-rows : (n : ℕ) → r .run .result ≡ Crossed n → rowCount (begun .args .log .now) ≤ 1024
+  few-rows n e =
+      lattice-few (begun .args .list) (logOf (begun .args .log .now)) (length marks) 32768 (begun .args .budget)
+      (accepted-leaves call marks n after (accepts n e) .0)
 
 slice-aggregate-run : tie.Need-slice-aggregate-run
 slice-aggregate-run c = search needs
@@ -27,36 +56,26 @@ enum-told : tie.Need-enum-told
 enum-told c = search needs
 
 count-marked-requires : tie.Need-count-marked-requires
-count-marked-requires c κs =
-    let a = c .before .before .before .before .before .before .before .before .before .before .args in
-    let run = c .before .before .before .before .before .before .run in
-    crossed-few (a .list) (logOf (a .log .now)) (a .marks .now) _ (replicate 32768 0) _ (a .budget) (run .result) zeros (run .ensures) _ (c .before .enum-told .given .1)
+count-marked-requires c κs = few-rows (c .before .before .before .before .before .before) _ (c .before .enum-told .given .1)
 
 enum-known-k : tie.Need-enum-known-k
 enum-known-k c = search needs
-
-minus-requires : tie.Need-minus-requires
-minus-requires c κs = search needs
 
 same-length : tie.Need-same-length
 same-length c = search needs
 
 returns : tie.Need-returns
 returns c =
-    let a = c .before .before .before .before .before .before .before .before .before .before .before .args in
-    let run = c .before .before .before .before .before .before .before .run in
-    crossed-selects (a .list) (logOf (a .log .now)) (a .marks .now) _ (replicate 32768 0) _ (a .budget) (run .result) zeros (run .ensures) _ _ (c .before .before .enum-told .given .1)
-    (num (c .count-marked .result) (c .count-marked .ok) ∙ c .count-marked .ensures)
+    let r = c .before .before .before .before .before .before .before in
+    accepted-counts (call r) (marks r) _ (c .count-marked .result) (after r) (accepts r _ (c .before .before .enum-told .given .1)) (c .count-marked .ensures)
 
 same-length-2 : tie.Need-same-length-2
 same-length-2 c = search needs
 
 returns-2 : tie.Need-returns-2
 returns-2 c =
-    let a = c .before .before .before .before .before .before .before .before .before .before .before .args in
-    let run = c .before .before .before .before .before .before .before .run in
-    lattice-refuses (a .list) (logOf (a .log .now)) (a .marks .now) _ (replicate 32768 0) _ (a .budget) (run .result) zeros (run .ensures) _ _ (c .before .before .k .given .1)
-    (num (c .minus .result) (c .minus .ok) ∙ c .minus .ensures)
+    let r = c .before .before .before .before .before .before in
+    refused-counts (call r) (marks r) _ (after r) (refuses r _ (c .before .k .given .1))
 
 pub by-lattice-spec : {M : Type 1} → statement M
 by-lattice-spec =
@@ -67,7 +86,6 @@ by-lattice-spec =
     enum-told
     count-marked-requires
     enum-known-k
-    minus-requires
     same-length
     returns
     same-length-2

@@ -6,13 +6,10 @@ use lib.ListN.{length}
 use Rattle.selection.proofs.count_marked.Statement.{statement}
 use Rattle.selection.proofs.count_marked.Tie as tie
 use Rattle.selection.proofs.marked.Reads as marked-reads
-use Rattle.selection.proofs.plus.Reads as plus-reads
 use Rattle.pareto.specs.Best.{markedRows}
 use Rattle.laws.specs.Lists.{joined}
-use Rattle.selection.specs.Laws.Selected.{count-more, count-few}
+use Rattle.selection.specs.Laws.Counted.{count-more, count-few}
 use mathlib.Core.Path.{ap, _∙_}
-use lib.IntN.{pos}
-use Rattle.arith.specs.Laws.Local.{num}
 
 abbrev Inv-loop : tie.InvT-loop
 Inv-loop marks n count₀ r₀ count r = (count ≡ length (markedRows marks r)) × (r ≤ n) × (n ≤ 1024)
@@ -44,18 +41,18 @@ loop-again c =
     let m = c .before .before .before .before .args .marks .now in
     (omega (arith, l .inv .0, c .marked .ensures, count-more m (l .r)), omega (arith, c .before .loop-test .taken), l .inv .2)
 
-plus-requires : tie.Need-plus-requires Inv-loop μ-loop
-plus-requires c κs =
+cast-result : tie.Need-cast-result Inv-loop μ-loop
+cast-result c =
     let l = c .before .loop in
     omega (arith, l .inv .0, l .inv .1, l .inv .2, count-few (c .before .before .before .args .marks .now) (l .r))
 
 returns : tie.Need-returns Inv-loop μ-loop
 returns c =
-    let l = c .before .before .loop in
-    let m = c .before .before .before .before .args .marks .now in
-    let n = c .before .before .before .before .args .n in
-    let all : l .r ≡ n = omega (arith, l .inv .1, c .before .loop-test .left) in
-    num (c .plus .result) (c .plus .ok) ∙ c .plus .ensures ∙ ap pos (l .inv .0 ∙ ap (λ (k : ℕ). length (markedRows m k)) all)
+    let l = c .before .loop in
+    let m = c .before .before .before .args .marks .now in
+    let n = c .before .before .before .args .n in
+    let all : l .r ≡ n = omega (arith, l .inv .1, c .loop-test .left) in
+    l .inv .0 ∙ ap (λ (k : ℕ). length (markedRows m k)) all
 
 pub count-marked-spec : {M : Type 1} → statement M
 count-marked-spec =
@@ -69,5 +66,5 @@ count-marked-spec =
     add-r
     loop-less
     loop-again
-    plus-requires
+    cast-result
     returns)

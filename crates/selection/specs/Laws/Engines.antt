@@ -1,74 +1,83 @@
--- From each engine's answer to a selection.
-use mathlib.Core.Path.{_≡_, sym, ap, _∙_}
+-- From an engine's answer to a selection: node bytes and a work list that are long enough, and one engine or the other.
+use mathlib.Core.Path.{_≡_, sym, _∙_}
 use Prim.Native.Nat.{ℕ, _≤_}
+use native.Mathlib.Omega.{arith}
 use mathlib.Core.List.{List}
-use lib.IntN.{ℤ, pos, negℤ}
 use lib.ListN.{length}
+use borrow.Author.Tests.{eq-eqb, ne-eqb}
+use Rattle.laws.specs.Outcome.{Outcome, accepted, refused}
 use Rattle.laws.specs.Laws.Checks.{then-none}
-use Rattle.laws.specs.Laws.Outcome.{accepted-number, refused-number}
-use Rattle.runs.specs.Log.{Log, rowCount}
+use Rattle.runs.specs.Log.{Log, rowCount, logNumber}
+use Rattle.runs.specs.Laws.Log as runs
+use Rattle.preference.specs.Valid.{listNumber}
 use Rattle.preference.specs.declared.PreferenceList.{PreferenceList}
-use Rattle.pareto.specs.Best.{marksLeft, markedRows}
+use Rattle.pareto.specs.Call.{counting, Leaves}
 use Rattle.pareto.specs.Checked.{marksNumber, checkedNumber}
-use Rattle.lattice.specs.Engine as lattice
-use Rattle.lattice.specs.declared.LatticeAnswer.{LatticeAnswer}
-use Rattle.lattice.specs.declared.LatticeAnswer.the-variants.{Crossed, Refused as LatticeRefused}
-use Rattle.bnl.specs.Engine as window
-use Rattle.bnl.specs.declared.WindowAnswer.{WindowAnswer}
-use Rattle.bnl.specs.declared.WindowAnswer.the-variants.{Compared, Refused as WindowRefused}
-use Rattle.selection.specs.Selected.{Selected}
-use Rattle.selection.specs.Laws.Selected.{rows-few, selects, refuses}
+use Rattle.pareto.specs.Laws.Call.{refused-leaves, accepted-leaves, accepted-counts, leaves-refused, leaves-accepted}
+use Rattle.lattice.specs.Engine.{latticeNumber, latticeCall}
+use Rattle.bnl.specs.Engine.{sizesNumber, windowNumber, windowCall}
+use Rattle.selection.specs.Selection.{eitherNumber, eitherCall}
 
-module _ (l : PreferenceList) (log : Log) (marks marks′ nodes nodes′ : List ℕ) (budget : ℕ) (answer : LatticeAnswer) (long : length nodes ≡ 32768)
-    (a : lattice.Ran l log marks nodes budget answer marks′ nodes′)
-  where
-    abbrev number : ℕ
-    number = lattice.latticeNumber l log (length marks) 32768 budget
+-- ---- an accepted call has at most 1,024 rows
 
-    due : lattice.latticeNumber l log (length marks) (length nodes) budget ≡ number
-    due = ap (λ (n : ℕ). lattice.latticeNumber l log (length marks) n budget) long
+checked-few : (l : PreferenceList) (log : Log) (more : ℕ) → checkedNumber l log more ≡ 0 → rowCount (log .values) ≤ 1024
+unfolding checkedNumber
+checked-few l log more z =
+    runs.accepted (log .values) (then-none (logNumber (log .values)) _ (then-none (listNumber l) _ z .1) .0) .few
 
-    left : marks′ ≡ marksLeft number l log marks
-    left = a .marks-are ∙ ap (λ (k : ℕ). marksLeft k l log marks) due
+pub lattice-few : (l : PreferenceList) (log : Log) (marks nodes budget : ℕ) → latticeNumber l log marks nodes budget ≡ 0
+    → rowCount (log .values) ≤ 1024
+unfolding latticeNumber
+lattice-few l log marks nodes budget z =
+    checked-few l log (marksNumber (log .values) marks)
+    (then-none (checkedNumber l log (marksNumber (log .values) marks)) _ z .0)
 
-    crossed-none : (n : ℕ) → answer ≡ Crossed n → number ≡ 0
-    crossed-none n e = sym due ∙ accepted-number _ _ n (sym (ap lattice.outcomeOf e) ∙ a .ends)
+pub window-few : (l : PreferenceList) (log : Log) (marks work w : ℕ) → windowNumber l log marks work w ≡ 0
+    → rowCount (log .values) ≤ 1024
+unfolding windowNumber
+window-few l log marks work w z = checked-few l log (sizesNumber log marks work w) z
 
-    pub crossed-few : (n : ℕ) → answer ≡ Crossed n → rowCount (log .values) ≤ 1024
-    unfolding lattice.latticeNumber
-    crossed-few n e = rows-few l log (marksNumber (log .values) (length marks)) (then-none (checkedNumber l log (marksNumber (log .values) (length marks))) _ (crossed-none n e) .0)
+-- ---- the engines' own buffers
 
-    pub crossed-selects : (n : ℕ) (r : ℤ) → answer ≡ Crossed n → r ≡ pos (length (markedRows marks′ (rowCount (log .values)))) → Selected number l log marks marks′ r
-    crossed-selects n r e q = selects l log marks number marks′ r (crossed-none n e) left q
+module _ (l : PreferenceList) (log : Log) (marks marks′ : List ℕ) (answer : Outcome ℕ) where
+  pub own-nodes : (nodes budget : ℕ) → nodes ≡ 32768
+      → Leaves (latticeCall l log (length marks) nodes budget) marks answer marks′
+      → Leaves (latticeCall l log (length marks) 32768 budget) marks answer marks′
+  own-nodes nodes budget e a = rw e at a
 
-    pub lattice-refuses : (k : ℕ) (r : ℤ) → answer ≡ LatticeRefused k → r ≡ negℤ (pos k) → Selected number l log marks marks′ r
-    lattice-refuses k r e q =
-        let n = refused-number _ _ k (sym (ap lattice.outcomeOf e) ∙ a .ends) in
-        refuses l log marks number k marks′ r (sym due ∙ n .0) (λ z. n .1 (due ∙ z)) left q
+  pub own-work : (work w : ℕ) → work ≡ 4096 → Leaves (windowCall l log (length marks) work w) marks answer marks′
+      → Leaves (windowCall l log (length marks) 4096 w) marks answer marks′
+  own-work work w e a = rw e at a
 
-module _ (l : PreferenceList) (log : Log) (marks marks′ work work′ : List ℕ) (w : ℕ) (answer : WindowAnswer) (long : length work ≡ 4096)
-    (a : window.Answered l log w marks marks′ work work′ answer)
-  where
-    abbrev windowed : ℕ
-    windowed = window.windowNumber l log (length marks) 4096 w
+-- ---- one engine or the other
 
-    window-due : window.windowNumber l log (length marks) (length work) w ≡ windowed
-    window-due = ap (λ (n : ℕ). window.windowNumber l log (length marks) n w) long
+module _ (l : PreferenceList) (log : Log) (marks marks′ : List ℕ) where
+  abbrev first : ℕ
+  first = latticeNumber l log (length marks) 32768 262144
 
-    window-left : marks′ ≡ marksLeft windowed l log marks
-    window-left = a .marks-after ∙ ap (λ (k : ℕ). marksLeft k l log marks) window-due
+  pub first-accepts : (n : ℕ)
+      → Leaves (counting (latticeCall l log (length marks) 32768 262144)) marks (accepted n) marks′
+      → Leaves (eitherCall l log (length marks)) marks (accepted n) marks′
+  unfolding eitherNumber
+  first-accepts n a =
+      let p = accepted-leaves (counting (latticeCall l log (length marks) 32768 262144)) marks n marks′ a in
+      leaves-accepted (eitherCall l log (length marks)) marks n marks′
+      (rw (ne-eqb first 9 (λ e. absurd (omega (arith, p .0, e)))) (p .0)) (p .1) (p .2)
 
-    compared-none : (n : ℕ) → answer ≡ Compared n → windowed ≡ 0
-    compared-none n e = sym window-due ∙ accepted-number _ _ n (sym (ap window.outcomeOf e) ∙ a .answer)
+  pub first-refuses : (k : ℕ) → (k ≡ 9 → ⊥)
+      → Leaves (counting (latticeCall l log (length marks) 32768 262144)) marks (refused k) marks′
+      → Leaves (eitherCall l log (length marks)) marks (refused k) marks′
+  unfolding eitherNumber
+  first-refuses k h a =
+      let p = refused-leaves (counting (latticeCall l log (length marks) 32768 262144)) marks k marks′ a in
+      let e : eitherNumber l log (length marks) ≡ k = rw (ne-eqb first 9 (λ e. h (sym (p .0) ∙ e))) (p .0) in
+      rw (p .2) (leaves-refused (eitherCall l log (length marks)) marks k e (p .1))
 
-    pub compared-few : (n : ℕ) → answer ≡ Compared n → rowCount (log .values) ≤ 1024
-    unfolding window.windowNumber
-    compared-few n e = rows-few l log (window.sizesNumber log (length marks) 4096 w) (compared-none n e)
-
-    pub compared-selects : (n : ℕ) (r : ℤ) → answer ≡ Compared n → r ≡ pos (length (markedRows marks′ (rowCount (log .values)))) → Selected windowed l log marks marks′ r
-    compared-selects n r e q = selects l log marks windowed marks′ r (compared-none n e) window-left q
-
-    pub window-refuses : (k : ℕ) (r : ℤ) → answer ≡ WindowRefused k → r ≡ negℤ (pos k) → Selected windowed l log marks marks′ r
-    window-refuses k r e q =
-        let n = refused-number _ _ k (sym (ap window.outcomeOf e) ∙ a .answer) in
-        refuses l log marks windowed k marks′ r (sym window-due ∙ n .0) (λ z. n .1 (window-due ∙ z)) window-left q
+  pub second-answers : (answer : Outcome ℕ) (marks″ : List ℕ)
+      → Leaves (counting (latticeCall l log (length marks) 32768 262144)) marks (refused 9) marks′
+      → Leaves (counting (windowCall l log (length marks′) 4096 64)) marks′ answer marks″
+      → Leaves (eitherCall l log (length marks)) marks answer marks″
+  unfolding eitherNumber
+  second-answers answer marks″ a b =
+      let p = refused-leaves (counting (latticeCall l log (length marks) 32768 262144)) marks 9 marks′ a in
+      rw (eq-eqb first 9 (p .0)) (rw (p .2) at b)

@@ -1,22 +1,24 @@
--- A call on a stream, from what reading answers and what the call on the list and the log comes to.
+-- A call on a stream, from what reading answers and what the call on the list and the log leaves.
 use mathlib.Core.Path.{_≡_, sym, ap, _∙_}
 use Prim.Native.Nat.{ℕ, _*_, _≤_}
 use native.Mathlib.Omega.{arith}
+use mathlib.Core.Bool.{cond}
 use mathlib.Core.List.{List}
-use lib.IntN.{ℤ, pos, negℤ}
+use lib.Dec.{eqb}
+use lib.IntN.{ℤ, pos}
 use lib.ListN.{length, take, replicate, length-replicate, length-take}
-use borrow.Author.Tests.{ne-eqb}
+use Rattle.laws.specs.Outcome.{Outcome, refused, outcome}
 use Rattle.laws.specs.Laws.Checks.{then-first, then-next}
 use Rattle.runs.specs.Log.{Log, logOf}
 use Rattle.preference.specs.declared.PreferenceList.{PreferenceList}
-use Rattle.pareto.specs.Best.{marksLeft}
+use Rattle.pareto.specs.Best.{marksAfter}
+use Rattle.pareto.specs.Call.{Call, marksLeft, Leaves}
+use Rattle.pareto.specs.Laws.Call.{leaves-refused}
 use Rattle.format.specs.Read.{readOf, logAfter}
 use Rattle.format.specs.Laws.Accepted.{read-accepted}
 use Rattle.format.specs.Laws.Rows.{values-long, log-read}
 use Rattle.format.specs.declared.ReadAnswer.{ReadAnswer}
-use Rattle.selection.specs.Selected.{Selected}
 use Rattle.selection.specs.Stream.{listIn, logIn, afterReading}
-use Rattle.selection.specs.Laws.Selected.{refuses}
 
 -- the log that reading fills
 abbrev pub blank : List ℤ
@@ -26,7 +28,8 @@ blank-long : length blank ≡ 8192
 blank-long = length-replicate 8192 (pos 0)
 
 -- a stream was read into it: the answer, and the log since
-module _ (s : List ℕ) (r : ReadAnswer) (log : List ℤ) (a : r ≡ readOf s (length blank)) (f : log ≡ logAfter s blank) where
+module _ (s : List ℕ) (r : ReadAnswer) (log : List ℤ) (a : r ≡ readOf s (length blank))
+    (f : log ≡ logAfter s blank) where
   pub answer : r ≡ readOf s 8192
   answer = rw blank-long at a
 
@@ -49,18 +52,26 @@ module _ (s : List ℕ) (r : ReadAnswer) (log : List ℤ) (a : r ≡ readOf s (l
     pub rows-fit : 8 * r .rows ≤ length log
     rows-fit = omega (arith, rows-long, length-take (8 * r .rows) log)
 
-  module _ (number : PreferenceList → Log → ℕ) (marks : List ℕ) (x : ℤ) where
+  module _ (call : PreferenceList → Log → Call) (marks : List ℕ) where
+    abbrev due : Call
+    due = call (listIn s) (logIn s)
+
     -- reading refuses the stream
-    pub unread-selects : (r .number ≡ 0 → ⊥) → x ≡ negℤ (pos (r .number)) → Selected (afterReading s number) (listIn s) (logIn s) marks marks x
-    unfolding afterReading marksLeft
-    unread-selects z e =
+    pub unread-leaves : (r .number ≡ 0 → ⊥) → Leaves (afterReading s call) marks (refused (r .number)) marks
+    unread-leaves z =
         let n = ap (λ (y : ReadAnswer). y .number) answer in
-        let some : readOf s 8192 .number ≡ 0 → ⊥ = λ q. z (n ∙ q) in
-        let k = then-first (readOf s 8192 .number) (number (listIn s) (logIn s)) some in
-        refuses (listIn s) (logIn s) marks (afterReading s number) (r .number) marks x (k ∙ sym n) (λ q. some (sym k ∙ q)) (rw (k, ne-eqb (readOf s 8192 .number) 0 some)) e
+        leaves-refused (afterReading s call) marks (r .number)
+        (then-first (readOf s 8192 .number) (due .number) (λ q. z (n ∙ q)) ∙ sym n) z
 
     -- reading accepts it, and the call on what was read ends
-    pub read-selects : (marks′ : List ℕ) → r .number ≡ 0 → Selected (number (r .list) (logOf (take (8 * r .rows) log))) (r .list) (logOf (take (8 * r .rows) log)) marks marks′ x
-        → Selected (afterReading s number) (listIn s) (logIn s) marks marks′ x
-    unfolding afterReading
-    read-selects marks′ z b = rw (then-next (readOf s 8192 .number) (number (listIn s) (logIn s)) (none z)) (rw (rows-are z, answer) at b)
+    pub read-leaves : (marks′ : List ℕ) (ends : Outcome ℕ) → r .number ≡ 0
+        → Leaves (call (r .list) (logOf (take (8 * r .rows) log))) marks ends marks′
+        → Leaves (afterReading s call) marks ends marks′
+    unfolding marksLeft
+    read-leaves marks′ ends z b =
+        let k = sym (then-next (readOf s 8192 .number) (due .number) (none z)) in
+        let a : Leaves due marks ends marks′ = rw (rows-are z, answer) at b in
+        record {
+          answer-is = a .answer-is ∙ ap (λ (j : ℕ). outcome j (due .value)) k;
+          marks-are = a .marks-are ∙ ap (λ (j : ℕ). cond (eqb j 0) (marksAfter (due .list) (due .log) marks) marks) k;
+        }

@@ -1,0 +1,129 @@
+-- The numbers that the calls on a stream can give: 0, or one of their lists.
+use mathlib.Core.Path.{_≡_, refl, _∙_}
+use Prim.Native.Nat.{ℕ, _*_, _≤_}
+use native.Mathlib.Omega.{arith}
+use mathlib.Core.Bool.{Bool, true, false, cond}
+use mathlib.Core.List.{List, _∷_}
+use lib.Dec.{eqb, ltb}
+use borrow.Author.Tests.{ltb-false, le-ltb, eqb-true, eqb-false}
+use Rattle.laws.specs.Checks.{_gives_, _then_}
+use Rattle.laws.specs.Lists.{anyOf}
+use Rattle.laws.specs.Laws.Checks.{gives-no, then-next, then-first}
+use Rattle.runs.specs.Log.{Log, rowCount, logNumber}
+use Rattle.runs.specs.Laws.Log.{accepted-rows}
+use Rattle.preference.specs.declared.PreferenceList.{PreferenceList}
+use Rattle.pareto.specs.Checked.{marksNumber, checkedNumber}
+use Rattle.pareto.specs.Numbers.{Among}
+use Rattle.pareto.specs.Laws.Numbers.{within, wider, none-among, gives-among, then-among, checked-in}
+use Rattle.nodes.specs.Lattice.{nodeCount, crossings}
+use Rattle.nodes.specs.Laws.Budget.{crossings-small}
+use Rattle.lattice.specs.Walked.{latticeTops, latticeRows}
+use Rattle.lattice.specs.Engine.{latticeNumber}
+use Rattle.bnl.specs.Engine.{sizesNumber, windowNumber}
+use Rattle.format.specs.Read.{records, endNumber, readOf}
+use Rattle.format.specs.Laws.Longest.{rows-at-most}
+use Rattle.format.specs.Laws.Rows.{values-long, values-fit}
+use Rattle.selection.specs.Selection.{eitherNumber}
+use Rattle.selection.specs.Stream.{listIn, logIn}
+use Rattle.console.specs.Flat.{flatLatticeCall, flatWindowCall}
+use Rattle.report.specs.Report.{reportCall}
+use Rattle.agreement.specs.Numbers.{readNumbers, latticeNumbers, windowNumbers, flatLatticeNumbers}
+use Rattle.agreement.specs.Numbers.{flatWindowNumbers, programNumbers}
+use Rattle.agreement.specs.Laws.Counts.{sizes-number}
+use Rattle.agreement.specs.Laws.Numbers.{lattice-among, window-among, read-in, read-among}
+
+-- ---- the flat calls
+
+pub flat-lattice-among : (s : List ℕ) (marks budget : ℕ)
+    → Among (0 ∷ flatLatticeNumbers) (flatLatticeCall s marks budget .number)
+unfolding within anyOf
+flat-lattice-among s marks budget =
+    let ns = flatLatticeNumbers in
+    let n = latticeNumber (listIn s) (logIn s) marks 32768 budget in
+    then-among ns _ _ (wider (0 ∷ readNumbers) (0 ∷ ns) (readOf s 8192 .number) refl (read-among s 8192))
+    (wider (0 ∷ latticeNumbers) (0 ∷ ns) n refl (lattice-among (listIn s) (logIn s) marks 32768 budget))
+
+pub flat-window-among : (s : List ℕ) (marks w : ℕ) → Among (0 ∷ flatWindowNumbers) (flatWindowCall s marks w .number)
+unfolding within anyOf
+flat-window-among s marks w =
+    let ns = flatWindowNumbers in
+    let n = windowNumber (listIn s) (logIn s) marks 4096 w in
+    then-among ns _ _ (wider (0 ∷ readNumbers) (0 ∷ ns) (readOf s 8192 .number) refl (read-among s 8192))
+    (wider (0 ∷ windowNumbers) (0 ∷ ns) n refl (window-among (listIn s) (logIn s) marks 4096 w))
+
+-- ---- the program: 9, 10 and 11 never come
+
+-- there is room for every log
+read-program : (s : List ℕ) → Among (0 ∷ programNumbers) (readOf s 8192 .number)
+unfolding endNumber within anyOf
+read-program s =
+    read-in programNumbers refl s 8192
+    (λ z.
+    let few = rows-at-most s z in
+    let fits = gives-no (ltb 8192 (8 * records s .rows)) 10 (le-ltb 8192 (8 * records s .rows) (omega arith)) in
+    rw fits (then-among programNumbers _ _ (gives-among programNumbers _ 1 refl) (none-among programNumbers)))
+
+module _ (l : PreferenceList) (log : Log) (g : logNumber (log .values) ≡ 0) (few : rowCount (log .values) ≤ 1024) where
+  no-ten : Among (0 ∷ programNumbers) (logNumber (log .values))
+  no-ten = rw g (none-among programNumbers)
+
+  enough-marks : marksNumber (log .values) 1024 ≡ 0
+  enough-marks = gives-no (ltb 1024 (rowCount (log .values))) 10 (le-ltb 1024 (rowCount (log .values)) few)
+
+  checks-among : (more : ℕ) → more ≡ 0 → Among (0 ∷ programNumbers) (checkedNumber l log more)
+  unfolding within anyOf
+  checks-among more z = checked-in programNumbers refl refl l log more no-ten (rw z (none-among programNumbers))
+
+  window-program : Among (0 ∷ programNumbers) (windowNumber l log 1024 4096 64)
+  unfolding windowNumber
+  window-program =
+      checks-among (sizesNumber log 1024 4096 64)
+      (sizes-number log 1024 4096 64 (omega arith) (omega arith) (omega arith) ∙ enough-marks)
+
+  -- 9 besides
+  lattice-program : Among (0 ∷ 9 ∷ programNumbers) (latticeNumber l log 1024 32768 262144)
+  unfolding latticeNumber anyOf within
+  lattice-program =
+      then-among (9 ∷ programNumbers) _ _
+      (wider (0 ∷ programNumbers) (0 ∷ 9 ∷ programNumbers) (checkedNumber l log (marksNumber (log .values) 1024)) refl
+      (checks-among _ enough-marks))
+      (past (ltb 32768 (nodeCount (latticeTops l))) refl)
+    where
+      past : (t : Bool) → ltb 32768 (nodeCount (latticeTops l)) ≡ t
+          → Among (0 ∷ 9 ∷ programNumbers)
+          (t gives 9 then ltb 32768 (nodeCount (latticeTops l)) gives 10
+          then ltb 262144 (crossings (latticeTops l) (latticeRows l log)) gives 11)
+      past true e = unfold _gives_ _then_ in refl
+      past false e =
+          let few =
+          crossings-small (latticeTops l) (latticeRows l log) (ltb-false 32768 (nodeCount (latticeTops l)) e) in
+          let fits = le-ltb 262144 (crossings (latticeTops l) (latticeRows l log)) (omega arith) in
+          rw (e, gives-no (ltb 262144 (crossings (latticeTops l) (latticeRows l log))) 11 fits)
+          (unfold _gives_ _then_ in refl)
+
+  either-program : Among (0 ∷ programNumbers) (eitherNumber l log 1024)
+  unfolding eitherNumber anyOf
+  either-program = go (eqb (latticeNumber l log 1024 32768 262144) 9) refl
+    where
+      n : ℕ
+      n = latticeNumber l log 1024 32768 262144
+
+      go : (t : Bool) → eqb n 9 ≡ t → Among (0 ∷ programNumbers) (cond t (windowNumber l log 1024 4096 64) n)
+      go true e = window-program
+      go false e = rw e at lattice-program
+
+pub program-among : (s : List ℕ) → Among (0 ∷ programNumbers) (reportCall s .number)
+program-among s = go (eqb (readOf s 8192 .number) 0) refl
+  where
+    either : ℕ
+    either = eitherNumber (listIn s) (logIn s) 1024
+
+    go : (t : Bool) → eqb (readOf s 8192 .number) 0 ≡ t → Among (0 ∷ programNumbers) (readOf s 8192 .number then either)
+    go true e =
+        let z = eqb-true (readOf s 8192 .number) 0 e in
+        let long = values-long s 8192 z in
+        let fits = values-fit s 8192 z in
+        rw (then-next (readOf s 8192 .number) either z)
+        (either-program (listIn s) (logIn s) (accepted-rows (logIn s .values) (readOf s 8192 .rows) long (omega arith))
+        (omega arith))
+    go false e = rw (then-first (readOf s 8192 .number) either (eqb-false (readOf s 8192 .number) 0 e)) (read-program s)
