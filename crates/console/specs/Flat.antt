@@ -2,6 +2,7 @@
 use Prim.Native.Nat.{ℕ, suc}
 use mathlib.Core.List.{List}
 use lib.IntN.{ℤ, pos, negsuc}
+use Rattle.limits.specs.Limits.{maxNodes, maxWork}
 use Rattle.laws.specs.Outcome.{Outcome, accepted, refused}
 use Rattle.pareto.specs.Call.{Call, counting}
 use Rattle.lattice.specs.Engine.{latticeCall}
@@ -15,8 +16,8 @@ signedOutcome (negsuc k) = refused (suc k)
 
 -- on a stream, with so many mark bytes and a budget
 abbrev pub flatLatticeCall : List ℕ → ℕ → ℕ → Call
-flatLatticeCall s marks budget = afterReading s (λ l log. counting (latticeCall l log marks 32768 budget))
+flatLatticeCall s marks budget = afterReading s (λ l log. counting (latticeCall l log marks maxNodes budget))
 
 -- on a stream, with so many mark bytes and a window's size
 abbrev pub flatWindowCall : List ℕ → ℕ → ℕ → Call
-flatWindowCall s marks w = afterReading s (λ l log. counting (windowCall l log marks 4096 w))
+flatWindowCall s marks w = afterReading s (λ l log. counting (windowCall l log marks maxWork w))

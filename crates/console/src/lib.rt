@@ -25,12 +25,12 @@ pub extern "C" fn shortlist_lattice(stream: &[u8], marks: &mut [u8], budget: u32
         ⌜ Leaves (flatLatticeCall (now (stream .entry)) (length (now (marks .entry))) budget)
         (now (marks .entry)) (signedOutcome r) (now (marks .exit)) ⌝ }
 {
-    let mut log = [0i32; 8192];
+    let mut log = [0i32; limits::MAX_VALUES];
     let read = reader::read(stream, &mut log);
     if read.number != 0 {
         return signed(Selection::Refused(read.number));
     }
-    let end = 8 * read.rows;
+    let end = limits::COLUMNS * read.rows;
     signed(selection::by_lattice(read.list, &log[..end], marks, budget))
 }
 
@@ -41,11 +41,11 @@ pub extern "C" fn shortlist_window(stream: &[u8], marks: &mut [u8], w: u32) -> i
         ⌜ Leaves (flatWindowCall (now (stream .entry)) (length (now (marks .entry))) w)
         (now (marks .entry)) (signedOutcome r) (now (marks .exit)) ⌝ }
 {
-    let mut log = [0i32; 8192];
+    let mut log = [0i32; limits::MAX_VALUES];
     let found = reader::read(stream, &mut log);
     if found.number != 0 {
         return signed(Selection::Refused(found.number));
     }
-    let end = 8 * found.rows;
+    let end = limits::COLUMNS * found.rows;
     signed(selection::by_window(found.list, &log[..end], marks, w))
 }

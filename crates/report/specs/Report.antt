@@ -6,6 +6,7 @@ use mathlib.Core.List.{List, [], _++_}
 use lib.Dec.{eqb}
 use lib.ListN.{length, take}
 use lib.Seq.{sets}
+use Rattle.limits.specs.Limits.{maxRuns}
 use Rattle.laws.specs.Lists.{joined}
 use Rattle.runs.specs.Log.{Log, rowCount}
 use Rattle.preference.specs.declared.PreferenceList.{PreferenceList}
@@ -27,16 +28,20 @@ textOf c =
 
 -- the program's call on a stream: it has a mark byte for each row that a log can have
 abbrev pub reportCall : List ℕ → Call
-reportCall s = afterReading s (λ l log. eitherCall l log 1024)
+reportCall s = afterReading s (λ l log. eitherCall l log maxRuns)
 
 unfoldable pub reportOf : List ℕ → List ℕ
 reportOf s = textOf (reportCall s)
 
--- a text stands at the front of the lent bytes, and is short enough for a buffer of 32,768
+-- how many bytes the program keeps for its report
+abbrev pub reportEnd : ℕ
+reportEnd = 32768
+
+-- a text stands at the front of the lent bytes, and is short enough for the program's
 pub record Reported (out last : List ℕ) (end : ℕ) (x : List ℕ) : Type 0 where
   pub end-is : end ≡ length x
   pub last-is : last ≡ sets out 0 x
-  pub short : end ≤ 32768
+  pub short : end ≤ reportEnd
 
 -- the report on every stream of which these are the n bytes read: all, or as many as the buffer holds
 abbrev pub ReportsFront : List ℕ → ℕ → List ℕ → List ℕ → ℕ → Type 0

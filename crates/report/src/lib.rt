@@ -2,6 +2,7 @@
 use preference::PreferenceList;
 use selection::Selection;
 ghost use Prim.Native.Nat.{_<_};
+ghost use Rattle.limits.specs.Limits.{maxRuns, u32End};
 ghost use Rattle.runs.specs.Log.{logOf};
 ghost use Rattle.text.specs.Prints.{Prints};
 ghost use Rattle.selection.specs.Selection.{eitherNumber, eitherCall};
@@ -11,13 +12,13 @@ ghost use Rattle.report.specs.Report.{Reported, textOf, reportOf};
 fn put_selected(out: &mut [u8], list: PreferenceList, log: &[i32]) -> usize
     ensures { λ r.
         ⌜ Prints (now (out .entry)) (now (out .exit)) 0 r
-        (textOf (eitherCall list (logOf (now (log .entry))) 1024)) ⌝ }
-    ensures { λ r. ⌜ eitherNumber list (logOf (now (log .entry))) 1024 < 4294967296 ⌝ }
+        (textOf (eitherCall list (logOf (now (log .entry))) maxRuns)) ⌝ }
+    ensures { λ r. ⌜ eitherNumber list (logOf (now (log .entry))) maxRuns < u32End ⌝ }
 {
-    let mut marks = [0u8; 1024];
+    let mut marks = [0u8; limits::MAX_RUNS];
     match selection::by_either(list, log, &mut marks) {
         Selection::Best(best) => {
-            let rows = log.len() / 8;
+            let rows = runs::row_count(log);
             let at = lines::put_head(out, rows as u64, best as u64);
             lines::put_lines(out, at, log, &marks)
         }
@@ -29,11 +30,11 @@ fn put_selected(out: &mut [u8], list: PreferenceList, log: &[i32]) -> usize
 pub fn report(stream: &[u8], out: &mut [u8]) -> usize
     ensures { λ r. ⌜ Reported (now (out .entry)) (now (out .exit)) r (reportOf (now (stream .entry))) ⌝ }
 {
-    let mut log = [0i32; 8192];
+    let mut log = [0i32; limits::MAX_VALUES];
     let read = reader::read(stream, &mut log);
     if read.number != 0 {
         return lines::put_refused(out, read.number as u64);
     }
-    let end = 8 * read.rows;
+    let end = limits::COLUMNS * read.rows;
     put_selected(out, read.list, &log[..end])
 }

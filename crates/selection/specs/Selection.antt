@@ -5,6 +5,7 @@ use mathlib.Core.Bool.{cond}
 use mathlib.Core.List.{List, [], _∷_}
 use lib.Dec.{eqb}
 use lib.ListN.{length, getD}
+use Rattle.limits.specs.Limits.{maxNodes, enoughBudget, maxWork, programWindow}
 use Rattle.laws.specs.Outcome.{Outcome, accepted, refused}
 use Rattle.runs.specs.Log.{Log}
 use Rattle.preference.specs.declared.PreferenceList.{PreferenceList}
@@ -23,9 +24,9 @@ outcomeOf (Refused k) = refused k
 -- "the lattice engine with budget 262,144, or the window engine with w 64 where refusal 9 would come"
 unfoldable pub eitherNumber : PreferenceList → Log → ℕ → ℕ
 eitherNumber l log marks =
-    cond (eqb (latticeNumber l log marks 32768 262144) 9)
-    (windowNumber l log marks 4096 64)
-    (latticeNumber l log marks 32768 262144)
+    cond (eqb (latticeNumber l log marks maxNodes enoughBudget) 9)
+    (windowNumber l log marks maxWork programWindow)
+    (latticeNumber l log marks maxNodes enoughBudget)
 
 -- a call with so many mark bytes; the value due is the number of shortlisted rows
 abbrev pub eitherCall : PreferenceList → Log → ℕ → Call

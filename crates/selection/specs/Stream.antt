@@ -1,6 +1,7 @@
 -- Document 01: "A flat call reads its stream first." What a stream says, read where there is room for every log.
 use Prim.Native.Nat.{ℕ}
 use mathlib.Core.List.{List}
+use Rattle.limits.specs.Limits.{maxValues}
 use Rattle.laws.specs.Checks.{_then_}
 use Rattle.runs.specs.Log.{Log, logOf}
 use Rattle.preference.specs.declared.PreferenceList.{PreferenceList}
@@ -8,7 +9,7 @@ use Rattle.format.specs.Read.{readOf, valuesOf}
 use Rattle.pareto.specs.Call.{Call}
 
 abbrev pub listIn : List ℕ → PreferenceList
-listIn s = readOf s 8192 .list
+listIn s = readOf s maxValues .list
 
 abbrev pub logIn : List ℕ → Log
 logIn s = logOf (valuesOf s)
@@ -17,4 +18,4 @@ logIn s = logOf (valuesOf s)
 abbrev pub afterReading : List ℕ → (PreferenceList → Log → Call) → Call
 afterReading s call =
     let c = call (listIn s) (logIn s) in
-    record { list = c .list; log = c .log; number = readOf s 8192 .number then c .number; value = c .value }
+    record { list = c .list; log = c .log; number = readOf s maxValues .number then c .number; value = c .value }

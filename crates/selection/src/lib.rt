@@ -5,7 +5,8 @@ use preference::PreferenceList;
 ghost use mathlib.Core.Path.{_≡_};
 ghost use Prim.Native.Nat.{_≤_};
 ghost use lib.ListN.{length};
-ghost use Rattle.runs.specs.Log.{logOf};
+ghost use Rattle.limits.specs.Limits.{maxRuns, maxNodes, maxWork};
+ghost use Rattle.runs.specs.Log.{logOf, rowCount};
 ghost use Rattle.pareto.specs.Best.{markedRows};
 ghost use Rattle.pareto.specs.Call.{counting, Leaves};
 ghost use Rattle.lattice.specs.Engine.{latticeCall};
@@ -25,11 +26,12 @@ fn marked(marks: &[u8], r: usize) -> usize
     if word::get_u8(marks, r) == 1 { 1 } else { 0 }
 }
 
-// How many of the first n rows are marked.
-fn count_marked(marks: &[u8], n: usize) -> u16
-    requires { ⌜ n ≤ 1024 ⌝ }
-    ensures { λ r. ⌜ r ≡ length (markedRows (now (marks .entry)) n) ⌝ }
+// How many rows of a log are marked.
+fn count_marked(marks: &[u8], log: &[i32]) -> u16
+    requires { ⌜ rowCount (now log) ≤ maxRuns ⌝ }
+    ensures { λ r. ⌜ r ≡ length (markedRows (now (marks .entry)) (rowCount (now (log .entry)))) ⌝ }
 {
+    let n = runs::row_count(log);
     let mut count: usize = 0;
     let mut r: usize = 0;
     while r < n {
@@ -42,12 +44,12 @@ fn count_marked(marks: &[u8], n: usize) -> u16
 // By the lattice engine, within a budget of crossings.
 pub fn by_lattice(list: PreferenceList, log: &[i32], marks: &mut [u8], budget: u32) -> Selection
     ensures { λ r.
-        ⌜ Leaves (counting (latticeCall list (logOf (now (log .entry))) (length (now (marks .entry))) 32768 budget))
+        ⌜ Leaves (counting (latticeCall list (logOf (now (log .entry))) (length (now (marks .entry))) maxNodes budget))
         (now (marks .entry)) (outcomeOf r) (now (marks .exit)) ⌝ }
 {
-    let mut nodes = [0u8; 32768];
+    let mut nodes = [0u8; limits::MAX_NODES];
     match lattice::run(list, log, marks, &mut nodes, budget) {
-        LatticeAnswer::Crossed(_) => Selection::Best(count_marked(marks, log.len() / 8)),
+        LatticeAnswer::Crossed(_) => Selection::Best(count_marked(marks, log)),
         LatticeAnswer::Refused(k) => Selection::Refused(k),
     }
 }
@@ -55,12 +57,12 @@ pub fn by_lattice(list: PreferenceList, log: &[i32], marks: &mut [u8], budget: u
 // By the window engine, with a window of w entries.
 pub fn by_window(list: PreferenceList, log: &[i32], marks: &mut [u8], w: u32) -> Selection
     ensures { λ r.
-        ⌜ Leaves (counting (windowCall list (logOf (now (log .entry))) (length (now (marks .entry))) 4096 w))
+        ⌜ Leaves (counting (windowCall list (logOf (now (log .entry))) (length (now (marks .entry))) maxWork w))
         (now (marks .entry)) (outcomeOf r) (now (marks .exit)) ⌝ }
 {
-    let mut work = [0u32; 4096];
+    let mut work = [0u32; limits::MAX_WORK];
     match bnl::run(list, log, marks, &mut work, w) {
-        WindowAnswer::Compared(_) => Selection::Best(count_marked(marks, log.len() / 8)),
+        WindowAnswer::Compared(_) => Selection::Best(count_marked(marks, log)),
         WindowAnswer::Refused(k) => Selection::Refused(k),
     }
 }
@@ -71,12 +73,12 @@ pub fn by_either(list: PreferenceList, log: &[i32], marks: &mut [u8]) -> Selecti
         ⌜ Leaves (eitherCall list (logOf (now (log .entry))) (length (now (marks .entry))))
         (now (marks .entry)) (outcomeOf r) (now (marks .exit)) ⌝ }
 {
-    let first = by_lattice(list, log, marks, 262144);
+    let first = by_lattice(list, log, marks, limits::ENOUGH_BUDGET);
     match first {
         Selection::Best(n) => Selection::Best(n),
         Selection::Refused(k) => {
             if k == 9 {
-                return by_window(list, log, marks, 64);
+                return by_window(list, log, marks, limits::PROGRAM_WINDOW);
             }
             Selection::Refused(k)
         }

@@ -8,6 +8,7 @@ use Rattle.laws.specs.Outcome.{Outcome, accepted, refused}
 use Rattle.runs.specs.Log.{logOf}
 use Rattle.pareto.specs.Call.{Call, Leaves}
 use Rattle.pareto.specs.Laws.Call.{refused-leaves, accepted-leaves, leaves-told}
+use Rattle.lines.specs.Lines.{headText}
 use Rattle.text.specs.Laws.Prints.{prints-then, prints-same}
 use Rattle.selection.specs.Selection.{outcomeOf, eitherCall}
 use Rattle.report.specs.Laws.Report.{refused-text, listed-text}
@@ -43,6 +44,9 @@ by-either-requires c κs = search needs
 enum-known-best : tie.Need-enum-known-best
 enum-known-best c = search needs
 
+row-count-requires : tie.Need-row-count-requires
+row-count-requires c κs = search needs
+
 cast-put-head : tie.Need-cast-put-head
 cast-put-head c = search needs
 
@@ -70,10 +74,11 @@ same-length c = search needs
 returns : tie.Need-returns
 returns c =
     let h = c .before .before .before .before .before .before .before in
-    let b = h .before .before .before in
+    let b = h .before .before .before .before in
     let r = b .before .before .before in
+    let head = prints-same (ap (λ (n : ℕ). headText n (b .best .given .0 .0)) (h .before .before .row-count .ensures)) (h .put-head .ensures) in
     let a = answers r (accepted _) (ap outcomeOf (b .best .given .1)) in (
-      prints-same (listed-text (call r) zeros (after r) _ a) (prints-then (h .put-head .ensures) (c .before .before .put-lines .ensures)),
+      prints-same (listed-text (call r) zeros (after r) _ a) (prints-then head (c .before .before .put-lines .ensures)),
       omega (arith, accepted-leaves (call r) zeros _ (after r) a .0),
     )
 
@@ -96,6 +101,7 @@ put-selected-spec =
     slice-aggregate-by-either
     by-either-requires
     enum-known-best
+    row-count-requires
     cast-put-head
     put-head-requires
     slice-aggregate-put-lines

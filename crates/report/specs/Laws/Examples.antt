@@ -27,6 +27,7 @@ use Rattle.nodes.specs.Lattice.{crossings}
 use Rattle.lattice.specs.Walked.{latticeTops, latticeRow, latticeRows}
 use Rattle.lattice.specs.Engine.{latticeNumber}
 use Rattle.selection.specs.Selection.{eitherNumber}
+use Rattle.text.specs.Letters.{letters}
 use Rattle.text.specs.Text.{decimalBy, decimal, sign, signed}
 use Rattle.lines.specs.Lines.{refusedText, headText, fieldsText, lineText}
 use Rattle.report.specs.Report.{linesText, textOf, reportOf}
@@ -49,21 +50,11 @@ harbourWith metres =
     ++ run 720 880 1210
     ++ run 810 900 1270
 
--- runs 5 best 4 / 0 800 900 / 1 650 1000 / 2 700 850 / 4 810 900
 abbrev pub printed : List ℕ
-printed =
-    114 ∷ 117 ∷ 110 ∷ 115 ∷ 32 ∷ 53 ∷ 32 ∷ 98 ∷ 101 ∷ 115 ∷ 116 ∷ 32 ∷ 52 ∷ 10 ∷ []
-    ++ 48 ∷ 32 ∷ 56 ∷ 48 ∷ 48 ∷ 32 ∷ 57 ∷ 48 ∷ 48 ∷ 10 ∷ []
-    ++ 49 ∷ 32 ∷ 54 ∷ 53 ∷ 48 ∷ 32 ∷ 49 ∷ 48 ∷ 48 ∷ 48 ∷ 10 ∷ []
-    ++ 50 ∷ 32 ∷ 55 ∷ 48 ∷ 48 ∷ 32 ∷ 56 ∷ 53 ∷ 48 ∷ 10 ∷ []
-    ++ 52 ∷ 32 ∷ 56 ∷ 49 ∷ 48 ∷ 32 ∷ 57 ∷ 48 ∷ 48 ∷ 10 ∷ []
+printed = letters "runs 5 best 4\n0 800 900\n1 650 1000\n2 700 850\n4 810 900\n"
 
--- refused with this figure
-abbrev refusedBy : ℕ → List ℕ
-refusedBy figure = 114 ∷ 101 ∷ 102 ∷ 117 ∷ 115 ∷ 101 ∷ 100 ∷ 32 ∷ figure ∷ 10 ∷ []
-
-pub examples : (reportOf (harbourWith 1000) ≡ printed) × (reportOf (harbourWith 1001) ≡ refusedBy 56)
-    × (reportOf [] ≡ refusedBy 49)
+pub examples : (reportOf (harbourWith 1000) ≡ printed) × (reportOf (harbourWith 1001) ≡ letters "refused 8\n")
+    × (reportOf [] ≡ letters "refused 1\n")
 unfolding reportOf textOf linesText refusedText headText fieldsText lineText decimalBy decimal sign signed eitherNumber
     latticeTops latticeRow latticeRows latticeNumber checkedNumber rowsNumber logNumber nodeCount nodeId levelsOf held
     dominatedNode reached edgesFrom edges crossedAt crossings noneAbove someBelow dominates competes competing vectorAt
