@@ -5,14 +5,11 @@
 use constructor::Layering;
 use preference::PreferenceList;
 ghost use mathlib.Core.Path.{_≡_};
-ghost use Prim.Native.Nat.{_<_};
 ghost use lib.IntN.{pos};
-ghost use lib.ListN.{getD, set};
-ghost use lib.Seq.{sets};
-ghost use Rattle.limits.specs.Limits.{columns};
+ghost use lib.ListN.{getD};
 ghost use Rattle.runs.specs.Log.{rowAt, rowCount};
-ghost use Rattle.level_table.specs.Table.{partAt, tableLength, tableOf};
-ghost use Rattle.level_table.specs.Filled.{withPart};
+ghost use Rattle.level_table.specs.Table.{partAt, tableLength, withTable};
+ghost use Rattle.level_table.specs.Filled.{withPart, Room};
 ghost use Rattle.level_table.specs.Rule.{rowLayer, ruleOf, Layered};
 
 // What decides a part of a level vector: the values of a column, by their distance from low..up or by layers.
@@ -56,15 +53,6 @@ fn rule_of(list: PreferenceList, k: usize) -> Rule
     }
 }
 
-// Stores a level; nothing past the table's end.
-fn store(table: &mut [u16], at: usize, level: u16)
-    ensures { λ _. ⌜ now (table .exit) ≡ set (now (table .entry)) at level ⌝ }
-{
-    if at < table.len() {
-        table[at] = level;
-    }
-}
-
 // The value at a column of row r.
 fn value_at(log: &[i32], r: usize, column: usize) -> i32
     ensures { λ v. ⌜ v ≡ getD (rowAt (now (log .entry)) r) column (pos 0) ⌝ }
@@ -75,7 +63,8 @@ fn value_at(log: &[i32], r: usize, column: usize) -> i32
 // Part k of a form that goes by distance, into a column of a table: for each row a value, two differences, a division
 // and a store.
 fn fill_distances(list: PreferenceList, log: &[i32], k: usize, into: usize, table: &mut [u16])
-    requires { ⌜ (ruleOf list k .layering ≡ Layering.Numeric) × (into < columns) ⌝ }
+    requires { ⌜ ruleOf list k .layering ≡ Layering.Numeric ⌝ }
+    requires { ⌜ Room (now log) (now table) into ⌝ }
     ensures { λ _. ⌜
         now (table .exit)
         ≡ withPart (partAt list (now (log .entry)) k) into (rowCount (now (log .entry))) (now (table .entry)) ⌝ }
@@ -90,11 +79,7 @@ fn fill_distances(list: PreferenceList, log: &[i32], k: usize, into: usize, tabl
     while r < n {
         let v = value_at(log, r, column);
         let level = constructor::level_outside(low, up, step, v);
-        store(
-            table,
-            limits::COLUMNS * r + into,
-            (level % limits::LEVEL_COUNT) as u16,
-        );
+        table[limits::COLUMNS * r + into] = (level % limits::LEVEL_COUNT) as u16;
         r += 1;
     }
 }
@@ -110,7 +95,7 @@ fn fill_named(
     into: usize,
     table: &mut [u16],
 )
-    requires { ⌜ into < columns ⌝ }
+    requires { ⌜ Room (now log) (now table) into ⌝ }
     ensures { λ _. ⌜
         now (table .exit)
         ≡ withPart (rowLayer (now (values .entry)) (now (layers .entry)) count others (now (log .entry)) column)
@@ -121,7 +106,7 @@ fn fill_named(
     while r < n {
         let v = value_at(log, r, column);
         let layer = levels::layer_among(values, layers, count, v, others);
-        store(table, limits::COLUMNS * r + into, layer as u16);
+        table[limits::COLUMNS * r + into] = layer as u16;
         r += 1;
     }
 }
@@ -135,7 +120,8 @@ fn fill_layers(
     others: u8,
     table: &mut [u16],
 )
-    requires { ⌜ Layered list k others × (into < columns) ⌝ }
+    requires { ⌜ Layered list k others ⌝ }
+    requires { ⌜ Room (now log) (now table) into ⌝ }
     ensures { λ _. ⌜
         now (table .exit)
         ≡ withPart (partAt list (now (log .entry)) k) into (rowCount (now (log .entry))) (now (table .entry)) ⌝ }
@@ -152,7 +138,7 @@ fn fill_layers(
 
 // Sets a column of a table, eight places to a row, to part k of the level vectors of a log, in 16 bits.
 fn fill_part(list: PreferenceList, log: &[i32], k: usize, into: usize, table: &mut [u16])
-    requires { ⌜ into < columns ⌝ }
+    requires { ⌜ Room (now log) (now table) into ⌝ }
     ensures { λ _. ⌜
         now (table .exit)
         ≡ withPart (partAt list (now (log .entry)) k) into (rowCount (now (log .entry))) (now (table .entry)) ⌝ }
@@ -174,11 +160,13 @@ pub fn table_length(list: PreferenceList, log: &[i32]) -> usize
     limits::COLUMNS * runs::row_count(log)
 }
 
-// Fills the front of a table with the levels of a log, part by part.
+// Fills the front of a table with the levels of a log, part by part. A table that is too short is left as it is.
 pub fn fill_table(list: PreferenceList, log: &[i32], table: &mut [u16])
-    ensures { λ _. ⌜
-        now (table .exit) ≡ sets (now (table .entry)) 0 (tableOf list (now (log .entry))) ⌝ }
+    ensures { λ _. ⌜ now (table .exit) ≡ withTable list (now (log .entry)) (now (table .entry)) ⌝ }
 {
+    if table.len() < table_length(list, log) {
+        return;
+    }
     let mut k: usize = 0;
     while k < limits::COLUMNS {
         fill_part(list, log, k, k, table);

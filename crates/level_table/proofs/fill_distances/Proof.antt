@@ -42,17 +42,29 @@ value-at-requires c κs = search needs
 level-outside-requires : tie.Need-level-outside-requires Inv-loop μ-loop
 level-outside-requires c κs = search needs
 
-mul-store : tie.Need-mul-store Inv-loop μ-loop
-mul-store c = search needs
+cast-table : tie.Need-cast-table Inv-loop μ-loop
+cast-table c = search needs
 
-add-store : tie.Need-add-store Inv-loop μ-loop
-add-store c = search needs
+mul-table : tie.Need-mul-table Inv-loop μ-loop
+mul-table c = search needs
 
-cast-store : tie.Need-cast-store Inv-loop μ-loop
-cast-store c = search needs
+add-table : tie.Need-add-table Inv-loop μ-loop
+add-table c =
+    let d = c .before .before .before in
+    let room = d .before .before .before .before .before .before .pre .1 in
+    omega (arith, c .before .before .loop-test .taken, d .loop .inv .1, d .loop .inv .2, room .rows, room .column)
 
-store-requires : tie.Need-store-requires Inv-loop μ-loop
-store-requires c κs = search needs
+mul-table-2 : tie.Need-mul-table-2 Inv-loop μ-loop
+mul-table-2 c =
+    let d = c .before .before .before in
+    let room = d .before .before .before .before .before .before .pre .1 in
+    omega (arith, c .before .before .loop-test .taken, d .loop .inv .1, d .loop .inv .2, room .rows, room .column)
+
+slice-write-table : tie.Need-slice-write-table Inv-loop μ-loop
+slice-write-table c =
+    let d = c .before .before .before in
+    let room = d .before .before .before .before .before .before .pre .1 in
+    omega (arith, c .before .before .loop-test .taken, d .loop .inv .1, d .loop .inv .2, room .rows, room .column)
 
 add-r : tie.Need-add-r Inv-loop μ-loop
 add-r c = search needs
@@ -62,23 +74,18 @@ loop-less c = search needs
 
 loop-again : tie.Need-loop-again Inv-loop μ-loop
 loop-again c =
-    let s = c .before .before in
-    let m = s .before .before in
-    let d = m .before .before .before in
+    let d = c .before .before .before in
     let a = d .before .before .before .before .before .before .args in
-    let v = m .before .value-at in
+    let v = c .before .value-at in
     let row = rowAt (a .log .now) (d .loop .r) in (
       search needs,
       d .loop .inv .1,
-      ap length (s .store .ensures)
-          ∙ length-set (d .loop .table) (8 * d .loop .r + a .into) (m .level-outside .result % 65536)
-          ∙ d .loop .inv .2,
+      length-set (d .loop .table) (8 * d .loop .r + a .into) (c .level-outside .result % 65536) ∙ d .loop .inv .2,
       λ l h.
           let e =
-          rw (num (v .result) (v .ok)) at (m .level-outside .ensures)
+          rw (num (v .result) (v .ok)) at (c .level-outside .ensures)
           ∙ ruled-level l (a .k) _ _ _ _ h row (v .result) (v .ensures) (v .ok) in
-          s .store .ensures
-          ∙ rw (e, d .loop .inv .3 l h) (with-part-more (partAt l (a .log .now) (a .k)) (a .into) (a .table .now) (d .loop .r)),
+          rw (e, d .loop .inv .3 l h) (with-part-more (partAt l (a .log .now) (a .k)) (a .into) (a .table .now) (d .loop .r)),
     )
 
 same-length : tie.Need-same-length Inv-loop μ-loop
@@ -112,10 +119,11 @@ fill-distances-spec =
     loop-holds
     value-at-requires
     level-outside-requires
-    mul-store
-    add-store
-    cast-store
-    store-requires
+    cast-table
+    mul-table
+    add-table
+    mul-table-2
+    slice-write-table
     add-r
     loop-less
     loop-again

@@ -7,13 +7,14 @@ use mathlib.Core.List.{List, _++_, append-nil}
 use lib.IntN.{ℤ}
 use lib.ListN.{length, getD, take, drop, length-append, drop-of-length-le}
 use lib.Seq.{sets, sets-eq, take-at, length-take-le}
+use borrow.Author.Tests.{le-ltb}
 use Rattle.laws.specs.Laws.Joined.{singles-at, singles-length}
 use Rattle.runs.specs.Log.{rowCount, rowAt}
 use Rattle.preference.specs.Valid.{listNumber}
 use Rattle.preference.specs.Parts.{levels, maxLevels, rowNumber}
 use Rattle.preference.specs.Laws.Parts.{within-at, at-most-at, max-levels-small, levels-within}
 use Rattle.preference.specs.declared.PreferenceList.{PreferenceList}
-use Rattle.level_table.specs.Table.{partAt, tableLength, tableOf}
+use Rattle.level_table.specs.Table.{partAt, tableLength, tableOf, withTable}
 
 -- eight numbers to a row
 pub table-rows : (l : PreferenceList) (log : List ℤ) → tableLength l log ≡ 8 * rowCount log
@@ -37,9 +38,12 @@ table-whole l log lent h =
 
 -- filled into the front of a longer list, which is handed on
 module _ (l : PreferenceList) (log : List ℤ) (zeros : List ℕ) (n : ℕ) (e : n ≡ tableLength l log) (h : n ≤ length zeros)
-    (last : List ℕ) (f : last ≡ sets (take n zeros) 0 (tableOf l log)) where
+    (last : List ℕ) (f : last ≡ withTable l log (take n zeros)) where
   last-is : last ≡ tableOf l log
-  last-is = f ∙ table-whole l log (take n zeros) (length-take-le n zeros h ∙ e)
+  unfolding withTable
+  last-is =
+      let long = length-take-le n zeros h ∙ e in
+      f ∙ rw (le-ltb (length (take n zeros)) (tableLength l log) (omega (arith, long))) (table-whole l log (take n zeros) long)
 
   last-long : length last ≡ n
   last-long = ap length last-is ∙ table-long l log ∙ sym e
