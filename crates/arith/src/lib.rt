@@ -17,7 +17,8 @@ pub fn signed_gap(a: i32, b: i32) -> u64
     d as u64
 }
 
-// How far v lies outside low..up. At most one gap is above zero, or low is above up and their sum is that gap: 32 bits hold it.
+// How far v lies outside low..up. At most one gap is above zero, or low is above up and their sum is that gap: 32 bits
+// hold it.
 pub fn outside(low: i32, up: i32, v: i32) -> u32
     ensures { λ r. ⌜ r ≡ gap low v + gap v up ⌝ }
 {

@@ -6,7 +6,7 @@ use Rattle.limits.specs.Limits.{maxNodes, maxWork}
 use Rattle.laws.specs.Outcome.{Outcome, accepted, refused}
 use Rattle.pareto.specs.Call.{Call, counting}
 use Rattle.lattice.specs.Engine.{latticeCall}
-use Rattle.bnl.specs.Engine.{windowCall}
+use Rattle.window.specs.Engine.{windowCall}
 use Rattle.selection.specs.Stream.{afterReading}
 
 -- "the result is the number of shortlisted rows, or minus the refusal number"

@@ -26,9 +26,9 @@ pub extern "C" fn shortlist_lattice(stream: &[u8], marks: &mut [u8], budget: u32
         (now (marks .entry)) (signedOutcome r) (now (marks .exit)) ⌝ }
 {
     let mut log = [0i32; limits::MAX_VALUES];
-    let read = reader::read(stream, &mut log);
-    if read.number != 0 {
-        return signed(Selection::Refused(read.number));
+    let read = stream_reader::read(stream, &mut log);
+    if read.refusal != 0 {
+        return signed(Selection::Refused(read.refusal));
     }
     let end = limits::COLUMNS * read.rows;
     signed(selection::by_lattice(read.list, &log[..end], marks, budget))
@@ -42,9 +42,9 @@ pub extern "C" fn shortlist_window(stream: &[u8], marks: &mut [u8], w: u32) -> i
         (now (marks .entry)) (signedOutcome r) (now (marks .exit)) ⌝ }
 {
     let mut log = [0i32; limits::MAX_VALUES];
-    let found = reader::read(stream, &mut log);
-    if found.number != 0 {
-        return signed(Selection::Refused(found.number));
+    let found = stream_reader::read(stream, &mut log);
+    if found.refusal != 0 {
+        return signed(Selection::Refused(found.refusal));
     }
     let end = limits::COLUMNS * found.rows;
     signed(selection::by_window(found.list, &log[..end], marks, w))

@@ -12,7 +12,8 @@ use Rattle.constructor.specs.declared.Target.{Target}
 use Rattle.constructor.specs.declared.Layering.{Layering}
 use Rattle.constructor.specs.declared.Layering.the-variants.{Numeric, Layers}
 
--- "The distance of v is v − lo (LOWEST), hi − v (HIGHEST), |v − z| (AROUND), or how far v lies outside low..up (BETWEEN)."
+-- "The distance of v is v − lo (LOWEST), hi − v (HIGHEST), |v − z| (AROUND), or how far v lies outside low..up
+-- (BETWEEN)."
 unfoldable pub distance : Constructor → ℤ → ℕ
 distance (Lowest lo hi step) v = gap v lo
 distance (Highest lo hi step) v = gap hi v

@@ -20,13 +20,13 @@ sound (Between lo hi step low up) = leZ lo low && leZ low up && leZ up hi && ltb
 sound (Layered top others) = ltb 0 top && leb top maxLayer && leb others top
 
 -- 6, then 7 for "M above 65,535"
-unfoldable pub constructorNumber : Constructor → ℕ
-constructorNumber c = not (sound c) gives 6 then ltb greatestLevel (maxLevel c) gives 7
+unfoldable pub constructorRefusal : Constructor → ℕ
+constructorRefusal c = not (sound c) gives 6 then ltb greatestLevel (maxLevel c) gives 7
 
-abbrev pub numberUnder : Layering → ℕ → ℕ
-numberUnder Numeric layer = 3
-numberUnder (Layers top others) layer = ltb top layer gives 6
+abbrev pub refusalUnder : Layering → ℕ → ℕ
+refusalUnder Numeric layer = 3
+refusalUnder (Layers top others) layer = ltb top layer gives 6
 
 -- a named value's layer: 3 for "named value of no LAYERED wish", 6 for a layer above the top
-unfoldable pub layerNumber : Constructor → ℕ → ℕ
-layerNumber c layer = numberUnder (layeringOf c) layer
+unfoldable pub layerRefusal : Constructor → ℕ → ℕ
+layerRefusal c layer = refusalUnder (layeringOf c) layer

@@ -1,11 +1,12 @@
-// Base preference constructors (000, section 3.1.1): what document 01 calls the five forms of a wish. Distance, level, greatest
-// level and the checks 6, 7 and 3 of one form. Levels and checks go by its cases here alone; the reader makes and the writer takes them.
+// Base preference constructors (000, section 3.1.1): what document 01 calls the five forms of a wish. Distance, level,
+// greatest level and the checks 6, 7 and 3 of one form. Levels and checks go by its cases here alone; the reader makes
+// and the writer takes them.
 ghost use mathlib.Core.Path.{_≡_};
 ghost use Prim.Native.Nat.{_+_, max};
 ghost use Rattle.arith.specs.Gap.{gap};
 ghost use Rattle.arith.specs.Ceil.{ceilDiv};
 ghost use Rattle.constructor.specs.Level.{scaleOf, targetOf, layeringOf, numericLevel, maxLevel, inside};
-ghost use Rattle.constructor.specs.Valid.{sound, constructorNumber, layerNumber};
+ghost use Rattle.constructor.specs.Valid.{sound, constructorRefusal, layerRefusal};
 
 // The least and the greatest number of 32 bits.
 const LEAST: i32 = -2147483648;
@@ -237,8 +238,8 @@ fn is_sound(c: Constructor) -> bool
 }
 
 // The number that the form is refused by, 6 or 7, or 0.
-pub fn number(c: Constructor) -> u8
-    ensures { λ r. ⌜ r ≡ constructorNumber c ⌝ }
+pub fn refusal(c: Constructor) -> u8
+    ensures { λ r. ⌜ r ≡ constructorRefusal c ⌝ }
 {
     if !is_sound(c) {
         return 6;
@@ -249,9 +250,10 @@ pub fn number(c: Constructor) -> u8
     0
 }
 
-// The number that a named value of this layer is refused by under the form: 3 where it has no layers, 6 above its top, or 0.
-pub fn layer_number(c: Constructor, layer: u8) -> u8
-    ensures { λ r. ⌜ r ≡ layerNumber c layer ⌝ }
+// The number that a named value of this layer is refused by under the form: 3 where it has no layers, 6 above its top,
+// or 0.
+pub fn layer_refusal(c: Constructor, layer: u8) -> u8
+    ensures { λ r. ⌜ r ≡ layerRefusal c layer ⌝ }
 {
     let y = layering_of(c);
     match y {

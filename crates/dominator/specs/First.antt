@@ -7,11 +7,11 @@ use lib.Dec.{eqb}
 use Rattle.limits.specs.Limits.{maxRuns}
 use Rattle.laws.specs.First.{firstAt}
 use Rattle.laws.specs.Lists.{anyOf}
-use Rattle.runs.specs.Log.{Log, rowCount}
-use Rattle.preference.specs.Valid.{listNumber}
+use Rattle.log.specs.Log.{Log, rowCount}
+use Rattle.preference.specs.Valid.{listRefusal}
 use Rattle.preference.specs.declared.PreferenceList.{PreferenceList}
 use Rattle.pareto.specs.Best.{rowDominates, isBest}
-use Rattle.pareto.specs.Checked.{rowsNumber}
+use Rattle.pareto.specs.Checked.{rowsRefusal}
 use Rattle.pareto.specs.Table.{firstDominates, compared}
 
 -- row s is on the shortlist and betters row r
@@ -24,8 +24,8 @@ firstDominator l log row = firstAt (bestDominates l log row) (rowCount (log .val
 
 -- what the checks leave
 pub record RowAsked (l : PreferenceList) (log : Log) (row : ℕ) : Type 0 where
-  pub list : listNumber l ≡ 0
-  pub values : rowsNumber l (log .values) ≡ 0
+  pub list : listRefusal l ≡ 0
+  pub values : rowsRefusal l (log .values) ≡ 0
   pub few : rowCount (log .values) ≤ maxRuns
   pub is-row : row < rowCount (log .values)
 

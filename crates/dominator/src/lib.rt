@@ -2,7 +2,7 @@
 use preference::PreferenceList;
 ghost use mathlib.Core.Path.{_≡_};
 ghost use Rattle.laws.specs.Lists.{anyOf};
-ghost use Rattle.runs.specs.Log.{logOf};
+ghost use Rattle.log.specs.Log.{logOf};
 ghost use Rattle.dominator.specs.First.{beats, bestBeats, firstOf, firstDominator, RowAsked};
 ghost use Rattle.dominator.specs.Engine.{Answered};
 
@@ -61,7 +61,7 @@ fn first_of_log(list: PreferenceList, log: &[i32], row: usize) -> usize
     level_table::fill_table(list, log, &mut table[..length]);
     let mut rows = [0usize; limits::MAX_RUNS];
     let count = pareto::competing_rows(log, &mut rows);
-    let n = runs::row_count(log);
+    let n = log::row_count(log);
     first_dominator(&table[..length], &rows[..count], row, n)
 }
 
@@ -69,11 +69,11 @@ fn first_of_log(list: PreferenceList, log: &[i32], row: usize) -> usize
 pub fn of(list: PreferenceList, log: &[i32], row: u32) -> DominatorAnswer
     ensures { λ r. ⌜ Answered list (logOf (now (log .entry))) row r ⌝ }
 {
-    let number = pareto::checked_number(list, log, 0);
-    if number != 0 {
-        return DominatorAnswer::Refused(number);
+    let refusal = pareto::checked_refusal(list, log, 0);
+    if refusal != 0 {
+        return DominatorAnswer::Refused(refusal);
     }
-    let n = runs::row_count(log);
+    let n = log::row_count(log);
     let asked = row as usize;
     if n <= asked {
         return DominatorAnswer::Refused(12);

@@ -2,7 +2,7 @@
 -- call promises of nodes, bytes, crossings and their bound is said of this lattice.
 use Prim.Native.Nat.{ℕ}
 use mathlib.Core.List.{List, map}
-use Rattle.runs.specs.Log.{Log}
+use Rattle.log.specs.Log.{Log}
 use Rattle.preference.specs.Parts.{maxLevels}
 use Rattle.preference.specs.declared.PreferenceList.{PreferenceList}
 use Rattle.pareto.specs.Best.{competing, vectorAt}

@@ -16,9 +16,9 @@ firstAt p (suc n) = orHere p n (firstAt p n)
 unfoldable pub anyBelow : (ℕ → Bool) → ℕ → Bool
 anyBelow p n = ltb (firstAt p n) n
 
-abbrev pub isNumber : (ℕ → ℕ) → ℕ → Bool
-isNumber f i = not (eqb (f i) 0)
+abbrev pub isRefusal : (ℕ → ℕ) → ℕ → Bool
+isRefusal f i = not (eqb (f i) 0)
 
 -- checks one by one: the first of f 0 .. f (n - 1) that is not 0, and 0 where there is none
-unfoldable pub firstNumber : (ℕ → ℕ) → ℕ → ℕ
-firstNumber f n = cond (anyBelow (isNumber f) n) (f (firstAt (isNumber f) n)) 0
+unfoldable pub firstRefusal : (ℕ → ℕ) → ℕ → ℕ
+firstRefusal f n = cond (anyBelow (isRefusal f) n) (f (firstAt (isRefusal f) n)) 0

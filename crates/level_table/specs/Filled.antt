@@ -4,7 +4,7 @@ use mathlib.Core.List.{List}
 use lib.IntN.{ℤ}
 use lib.ListN.{set, length}
 use Rattle.limits.specs.Limits.{columns}
-use Rattle.runs.specs.Log.{rowCount}
+use Rattle.log.specs.Log.{rowCount}
 
 -- a table, eight places to a row, with column k of its first n rows set to f 0, .., f (n - 1)
 unfoldable pub withPart : (ℕ → ℕ) → ℕ → ℕ → List ℕ → List ℕ

@@ -11,7 +11,7 @@ use Rattle.constructor.specs.declared.Layering.the-variants.{Numeric}
 use Rattle.preference.specs.List.{preferenceAt}
 use Rattle.preference.specs.Level.{layerOf}
 use Rattle.limits.specs.Limits.{levelCount}
-use Rattle.runs.specs.Log.{rowAt}
+use Rattle.log.specs.Log.{rowAt}
 use Rattle.preference.specs.Names.{among}
 use Rattle.preference.specs.Parts.{levels, maxLevels, partOf}
 use Rattle.preference.specs.declared.Preference.{Preference}

@@ -9,7 +9,7 @@ use lib.ListN.{getD, length}
 use lib.Seq.{sets}
 use Rattle.limits.specs.Limits.{columns, levelCount}
 use Rattle.laws.specs.Lists.{joined}
-use Rattle.runs.specs.Log.{rowCount, rowAt}
+use Rattle.log.specs.Log.{rowCount, rowAt}
 use Rattle.preference.specs.Parts.{levels}
 use Rattle.preference.specs.declared.PreferenceList.{PreferenceList}
 

@@ -7,7 +7,7 @@ use preference::PreferenceList;
 ghost use mathlib.Core.Path.{_≡_};
 ghost use lib.IntN.{pos};
 ghost use lib.ListN.{getD};
-ghost use Rattle.runs.specs.Log.{rowAt, rowCount};
+ghost use Rattle.log.specs.Log.{rowAt, rowCount};
 ghost use Rattle.level_table.specs.Table.{partAt, tableLength, withTable};
 ghost use Rattle.level_table.specs.Filled.{withPart, Room};
 ghost use Rattle.level_table.specs.Rule.{rowLayer, ruleOf, Layered};
@@ -57,7 +57,7 @@ fn rule_of(list: PreferenceList, k: usize) -> Rule
 fn value_at(log: &[i32], r: usize, column: usize) -> i32
     ensures { λ v. ⌜ v ≡ getD (rowAt (now (log .entry)) r) column (pos 0) ⌝ }
 {
-    levels::value_in(runs::row(log, r), column)
+    levels::value_in(log::row(log, r), column)
 }
 
 // Part k of a form that goes by distance, into a column of a table: for each row a value, two differences, a division
@@ -74,7 +74,7 @@ fn fill_distances(list: PreferenceList, log: &[i32], k: usize, into: usize, tabl
     let low = rule.low;
     let up = rule.up;
     let step = rule.step;
-    let n = runs::row_count(log);
+    let n = log::row_count(log);
     let mut r: usize = 0;
     while r < n {
         let v = value_at(log, r, column);
@@ -101,7 +101,7 @@ fn fill_named(
         ≡ withPart (rowLayer (now (values .entry)) (now (layers .entry)) count others (now (log .entry)) column)
         into (rowCount (now (log .entry))) (now (table .entry)) ⌝ }
 {
-    let n = runs::row_count(log);
+    let n = log::row_count(log);
     let mut r: usize = 0;
     while r < n {
         let v = value_at(log, r, column);
@@ -157,7 +157,7 @@ fn fill_part(list: PreferenceList, log: &[i32], k: usize, into: usize, table: &m
 pub fn table_length(list: PreferenceList, log: &[i32]) -> usize
     ensures { λ n. ⌜ n ≡ tableLength list (now (log .entry)) ⌝ }
 {
-    limits::COLUMNS * runs::row_count(log)
+    limits::COLUMNS * log::row_count(log)
 }
 
 // Fills the front of a table with the levels of a log, part by part. A table that is too short is left as it is.

@@ -16,25 +16,26 @@ ghost use Rattle.limits.specs.Limits.{maxNamed};
 ghost use Rattle.constructor.specs.Level.{inside};
 ghost use Rattle.laws.specs.Checks.{_gives_};
 ghost use Rattle.laws.specs.Outcome.{outcome};
-ghost use Rattle.preference.specs.List.{preferenceAt, places, names};
-ghost use Rattle.preference.specs.Level.{layerOf, levelAt, valueNumber, levelNumber, outcomeOf};
-ghost use Rattle.preference.specs.Parts.{levels, maxLevels, partOf, rowNumber};
+ghost use Rattle.preference.specs.List.{preferenceAt, places, namedPlaces};
+ghost use Rattle.preference.specs.Level.{layerOf, levelAt, valueRefusal, levelRefusal, outcomeOf};
+ghost use Rattle.preference.specs.Parts.{levels, maxLevels, partOf, rowRefusal};
 ghost use Rattle.preference.specs.Names.{among, NamesOf};
 
 // ---- the level of a value
 
-fn held_names(list: PreferenceList) -> usize
-    ensures { λ r. ⌜ r ≡ names list ⌝ }
+fn counted_names(list: PreferenceList) -> usize
+    ensures { λ r. ⌜ r ≡ namedPlaces list ⌝ }
 {
-    let n = list.namings;
-    if n <= preference::MAX_NAMINGS {
+    let n = list.namedcount;
+    if n <= preference::MAX_NAMED_COUNT {
         n as usize
     } else {
         limits::MAX_NAMED
     }
 }
 
-// The place after m where owner is i: a named value of the preference at place i is kept, and any other is written over.
+// The place after m where owner is i: a named value of the preference at place i is kept, and any other is written
+// over.
 fn place_after(m: usize, owner: usize, i: usize) -> usize
     requires { ⌜ m < maxNamed ⌝ }
     ensures { λ r. ⌜ r ≡ cond (eqb owner i) (m + 1) m ⌝ }
@@ -46,7 +47,7 @@ fn place_after(m: usize, owner: usize, i: usize) -> usize
 pub fn names_of(list: PreferenceList, i: usize) -> Names
     ensures { λ r. ⌜ NamesOf list i r ⌝ }
 {
-    let n = held_names(list);
+    let n = counted_names(list);
     let mut values = [0i32; limits::MAX_NAMED];
     let mut layers = [0u8; limits::MAX_NAMED];
     let mut m: usize = 0;
@@ -80,9 +81,9 @@ fn least(n: usize, a: usize, b: usize) -> usize
 pub fn layer_among(values: &[i32], layers: &[u8], n: usize, v: i32, others: u8) -> u8
     ensures { λ r. ⌜ r ≡ among (now (values .entry)) (now (layers .entry)) n v others ⌝ }
 {
-    let held = least(n, values.len(), layers.len());
+    let counted = least(n, values.len(), layers.len());
     let mut k: usize = 0;
-    while k < held {
+    while k < counted {
         let value = values[k];
         if arith::same(value, v) {
             return layers[k];
@@ -128,8 +129,8 @@ fn level_at(list: PreferenceList, i: usize, v: i32) -> u64
 }
 
 // 8 where v lies outside the bounds of the preference at place i.
-fn value_number(list: PreferenceList, i: usize, v: i32) -> u8
-    ensures { λ r. ⌜ r ≡ valueNumber list i v ⌝ }
+fn value_refusal(list: PreferenceList, i: usize, v: i32) -> u8
+    ensures { λ r. ⌜ r ≡ valueRefusal list i v ⌝ }
 {
     let c = constructor_at(list, i);
     if constructor::is_inside(c, v) { 0 } else { 8 }
@@ -137,9 +138,9 @@ fn value_number(list: PreferenceList, i: usize, v: i32) -> u8
 
 // The level of a value under the preference at a place.
 pub fn level(list: PreferenceList, place: u32, value: i32) -> LevelAnswer
-    ensures { λ r. ⌜ outcomeOf r ≡ outcome (levelNumber list place value) (levelAt list place value) ⌝ }
+    ensures { λ r. ⌜ outcomeOf r ≡ outcome (levelRefusal list place value) (levelAt list place value) ⌝ }
 {
-    let k = preference::number(list);
+    let k = preference::refusal(list);
     if k != 0 {
         return LevelAnswer::Refused(k);
     }
@@ -148,7 +149,7 @@ pub fn level(list: PreferenceList, place: u32, value: i32) -> LevelAnswer
         return LevelAnswer::Refused(10);
     }
     let i = place as usize;
-    let outside = value_number(list, i, value);
+    let outside = value_refusal(list, i, value);
     if outside != 0 {
         return LevelAnswer::Refused(outside);
     }
@@ -158,7 +159,7 @@ pub fn level(list: PreferenceList, place: u32, value: i32) -> LevelAnswer
 // ---- the level vector of a run
 
 // The number of the preferences that a list holds.
-fn held_places(list: PreferenceList) -> usize
+fn counted_places(list: PreferenceList) -> usize
     ensures { λ r. ⌜ r ≡ places list ⌝ }
 {
     preference::at_most_8(list.count as usize)
@@ -183,14 +184,14 @@ fn run_value(p: Preference, row: &[i32]) -> i32
 pub fn parts(list: PreferenceList) -> usize
     ensures { λ r. ⌜ r ≡ length (maxLevels list) ⌝ }
 {
-    held_places(list)
+    counted_places(list)
 }
 
 // The preference that part k of the level vectors belongs to. Each has one part.
 pub fn part_at(list: PreferenceList, k: usize) -> PartAt
     ensures { λ r. ⌜ r ≡ partOf list k ⌝ }
 {
-    let n = held_places(list);
+    let n = counted_places(list);
     if n <= k {
         return PartAt {
             place: n,
@@ -226,7 +227,7 @@ pub fn part_max(list: PreferenceList, k: usize) -> u64
 }
 
 // 8 where the run's value lies outside the bounds of a preference.
-fn run_number(p: Preference, row: &[i32]) -> u8
+fn run_refusal(p: Preference, row: &[i32]) -> u8
     ensures { λ r. ⌜ r ≡ not (inside (p .constructor) (getD (now (row .entry)) (p .column) (pos 0))) gives 8 ⌝ }
 {
     let v = run_value(p, row);
@@ -235,14 +236,14 @@ fn run_number(p: Preference, row: &[i32]) -> u8
 }
 
 // 8 where a value of the run lies outside the bounds of its preference, or 0.
-pub fn row_number(list: PreferenceList, row: &[i32]) -> u8
-    ensures { λ r. ⌜ r ≡ rowNumber list (now (row .entry)) ⌝ }
+pub fn row_refusal(list: PreferenceList, row: &[i32]) -> u8
+    ensures { λ r. ⌜ r ≡ rowRefusal list (now (row .entry)) ⌝ }
 {
-    let n = held_places(list);
+    let n = counted_places(list);
     let mut i: usize = 0;
     while i < n {
         let p = list.preferences[i];
-        let k = run_number(p, row);
+        let k = run_refusal(p, row);
         if k != 0 {
             return k;
         }

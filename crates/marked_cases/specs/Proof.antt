@@ -2,25 +2,26 @@
 use mathlib.Core.Path.{_≡_, refl}
 use mathlib.Core.List.{List, [], _∷_, map}
 use Rattle.laws.specs.Checks.{_gives_, _then_}
-use Rattle.laws.specs.First.{firstAt, anyBelow, firstNumber}
+use Rattle.laws.specs.First.{firstAt, anyBelow, firstRefusal}
 use Rattle.laws.specs.Outcome.{outcome}
 use Rattle.arith.specs.Gap.{gap}
 use Rattle.arith.specs.Ceil.{ceilDiv}
 use Rattle.constructor.specs.Level.{distance, inside, maxLevel}
-use Rattle.constructor.specs.Valid.{sound, constructorNumber, layerNumber}
-use Rattle.preference.specs.Valid.{columnNumber, preferenceNumber, namedNumber, listNumber}
-use Rattle.preference.specs.Level.{layerOf, levelAt, maxAt, valueNumber, levelNumber}
-use Rattle.preference.specs.Parts.{levels, maxLevels, rowNumber}
+use Rattle.constructor.specs.Valid.{sound, constructorRefusal, layerRefusal}
+use Rattle.preference.specs.Valid.{columnRefusal, preferenceRefusal, namedRefusal, listRefusal}
+use Rattle.preference.specs.Level.{layerOf, levelAt, maxAt, valueRefusal, levelRefusal}
+use Rattle.preference.specs.Parts.{levels, maxLevels, rowRefusal}
 use Rattle.laws.specs.Lists.{joined, anyOf}
-use Rattle.runs.specs.Log.{logNumber}
+use Rattle.log.specs.Log.{logRefusal}
 use Rattle.pareto.specs.Dominance.{noneAbove, someBelow, dominates}
 use Rattle.pareto.specs.Best.{competes, competing, vectorAt, rowDominates, isBest, marksOf}
-use Rattle.pareto.specs.Checked.{rowsNumber, checkedNumber}
-use Rattle.nodes.specs.Lattice.{nodeCount, nodeId, levelsOf, held, dominatedNode, reached, edgesFrom, edges, crossedAt, crossings, boundFrom, bound}
+use Rattle.pareto.specs.Checked.{rowsRefusal, checkedRefusal}
+use Rattle.lattice_nodes.specs.Lattice.{nodeCount, nodeId, levelsOf, held, dominatedNode, reached, edgesFrom, edges}
+use Rattle.lattice_nodes.specs.Lattice.{crossedAt, crossings, boundFrom, bound}
 use Rattle.lattice.specs.Walked.{latticeTops, latticeRow, latticeRows}
-use Rattle.lattice.specs.Engine.{latticeNumber}
-use Rattle.machine.specs.Machine as machines
-use Rattle.bnl.specs.Engine.{sizesNumber, windowNumber, machineOf}
+use Rattle.lattice.specs.Engine.{latticeRefusal}
+use Rattle.window_machine.specs.Machine as machines
+use Rattle.window.specs.Engine.{sizesRefusal, windowRefusal, machineOf}
 use Rattle.marked_cases.specs.Question.{Answer, answer, Case, Holds, Each}
 use Rattle.marked_cases.specs.Table.{cases}
 
@@ -36,5 +37,13 @@ each [] e = tt
 each (c ∷ cs) e = (cc, each cs (cc))
 
 pub marked-cases : Each cases
-unfolding answers expected answer outcome _gives_ _then_ firstAt anyBelow firstNumber gap ceilDiv distance inside maxLevel sound constructorNumber layerNumber columnNumber preferenceNumber namedNumber listNumber layerOf levelAt maxAt valueNumber levelNumber levels maxLevels rowNumber joined anyOf logNumber noneAbove someBelow dominates competes competing vectorAt rowDominates isBest marksOf rowsNumber checkedNumber nodeCount nodeId levelsOf held dominatedNode reached edgesFrom edges crossedAt crossings boundFrom bound latticeTops latticeRow latticeRows latticeNumber sizesNumber windowNumber machineOf machines.keep machines.marked machines.older machines.younger machines.release machines.dominated machines.compares machines.tick machines.spares machines.remove machines.enter machines.setAside machines.renew machines.finish machines.isEmpty machines.place machines.judge machines.read machines.pass machines.passes machines.start machines.machine
+unfolding answers expected answer outcome _gives_ _then_ firstAt anyBelow firstRefusal gap ceilDiv distance inside
+    maxLevel sound constructorRefusal layerRefusal columnRefusal preferenceRefusal namedRefusal listRefusal layerOf
+    levelAt maxAt valueRefusal levelRefusal levels maxLevels rowRefusal joined anyOf logRefusal noneAbove someBelow
+    dominates competes competing vectorAt rowDominates isBest marksOf rowsRefusal checkedRefusal nodeCount nodeId
+    levelsOf held dominatedNode reached edgesFrom edges crossedAt crossings boundFrom bound latticeTops latticeRow
+    latticeRows latticeRefusal sizesRefusal windowRefusal machineOf machines.keep machines.marked machines.older
+    machines.younger machines.release machines.dominated machines.compares machines.tick machines.spares machines.remove
+    machines.enter machines.setAside machines.renew machines.finish machines.isEmpty machines.place machines.judge
+    machines.read machines.pass machines.passes machines.start machines.machine
 marked-cases = each cases refl

@@ -4,13 +4,13 @@ use mathlib.Core.List.{List, [], _∷_}
 use mathlib.Core.Path.{_≡_}
 use lib.IntN.{ℤ}
 use Rattle.laws.specs.Outcome.{Outcome, accepted, refused, outcome}
-use Rattle.runs.specs.Log.{Log}
-use Rattle.preference.specs.Level.{levelNumber, levelAt, maxAt}
+use Rattle.log.specs.Log.{Log}
+use Rattle.preference.specs.Level.{levelRefusal, levelAt, maxAt}
 use Rattle.pareto.specs.Best.{marksOf}
-use Rattle.nodes.specs.Lattice.{nodeCount, crossings, bound}
+use Rattle.lattice_nodes.specs.Lattice.{nodeCount, crossings, bound}
 use Rattle.lattice.specs.Walked.{latticeTops, latticeRows}
-use Rattle.lattice.specs.Engine.{latticeNumber}
-use Rattle.bnl.specs.Engine.{windowNumber, machineOf}
+use Rattle.lattice.specs.Engine.{latticeRefusal}
+use Rattle.window.specs.Engine.{windowRefusal, machineOf}
 use Rattle.preference.specs.declared.PreferenceList.{PreferenceList}
 
 pub data Question : Type 0 where
@@ -35,15 +35,15 @@ pub data Answer : Type 0 where
   figures : List ℕ → Answer
 
 unfoldable pub answer : Question → Answer
-answer (levelAsked l i v) = ends (outcome (levelNumber l i v) (levelAt l i v))
+answer (levelAsked l i v) = ends (outcome (levelRefusal l i v) (levelAt l i v))
 answer (maxAsked l i) = figure (maxAt l i)
 answer (marksAsked l log) = figures (marksOf l log)
 answer (machineAsked l log w) = figures (machineOf l log w .marks)
 answer (latticeAsked l log) =
     figures (nodeCount (latticeTops l) ∷ crossings (latticeTops l) (latticeRows l log) ∷ bound (latticeTops l) ∷ [])
-answer (windowCalled l log marks work w) = ends (outcome (windowNumber l log marks work w) (machineOf l log w .count))
+answer (windowCalled l log marks work w) = ends (outcome (windowRefusal l log marks work w) (machineOf l log w .count))
 answer (latticeCalled l log marks nodes budget) =
-    ends (outcome (latticeNumber l log marks nodes budget) (crossings (latticeTops l) (latticeRows l log)))
+    ends (outcome (latticeRefusal l log marks nodes budget) (crossings (latticeTops l) (latticeRows l log)))
 
 pub record Case : Type 0 where
   pub asks : Question

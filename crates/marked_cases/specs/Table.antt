@@ -4,7 +4,7 @@ use mathlib.Core.List.{List, [], _∷_, _++_}
 use lib.IntN.{ℤ, pos, negsuc}
 use lib.ListN.{length, replicate}
 use Rattle.laws.specs.Outcome.{accepted, refused}
-use Rattle.runs.specs.Log.{Log, logOf}
+use Rattle.log.specs.Log.{Log, logOf}
 use Rattle.constructor.specs.declared.Constructor.{Constructor}
 use Rattle.constructor.specs.declared.Constructor.the-variants.{Lowest, Highest, Around, Between, Layered}
 use Rattle.preference.specs.List.{zeroPreference, zeroNamed}
@@ -20,7 +20,7 @@ listOf ps ns =
     record {
       count = length ps;
       preferences = ps ++ replicate (8 - length ps) zeroPreference;
-      namings = length ns;
+      namedcount = length ns;
       named = ns ++ replicate (64 - length ns) zeroNamed;
     }
 

@@ -6,7 +6,7 @@ use mathlib.Core.List.{List, [], _∷_, _++_, map}
 use lib.Dec.{eqb}
 use lib.ListN.{drop, getD}
 use Rattle.laws.specs.Lists.{joined, passing, anyOf}
-use Rattle.runs.specs.Log.{Log, rowCount, rowAt}
+use Rattle.log.specs.Log.{Log, rowCount, rowAt}
 use Rattle.preference.specs.Parts.{levels}
 use Rattle.preference.specs.declared.PreferenceList.{PreferenceList}
 use Rattle.pareto.specs.Dominance.{dominates, Pareto}

@@ -7,7 +7,7 @@ use mathlib.Core.List.{List}
 use lib.Dec.{eqb}
 use lib.ListN.{length}
 use Rattle.laws.specs.Outcome.{Outcome, outcome}
-use Rattle.runs.specs.Log.{Log}
+use Rattle.log.specs.Log.{Log}
 use Rattle.preference.specs.declared.PreferenceList.{PreferenceList}
 use Rattle.pareto.specs.Best.{bestMatches, marksAfter}
 
@@ -16,19 +16,19 @@ use Rattle.pareto.specs.Best.{bestMatches, marksAfter}
 pub record Call : Type 0 where
   pub list : PreferenceList
   pub log : Log
-  pub number : ℕ
+  pub refusal : ℕ
   pub value : ℕ
 
 -- the same call where "the result is the number of shortlisted rows"
 abbrev pub counting : Call → Call
 counting c =
-    record { list = c .list; log = c .log; number = c .number; value = length (bestMatches (c .list) (c .log)) }
+    record { list = c .list; log = c .log; refusal = c .refusal; value = length (bestMatches (c .list) (c .log)) }
 
 -- the lent mark bytes after it: "Nothing lent changes on a refusal"
 unfoldable pub marksLeft : Call → List ℕ → List ℕ
-marksLeft c marks = cond (eqb (c .number) 0) (marksAfter (c .list) (c .log) marks) marks
+marksLeft c marks = cond (eqb (c .refusal) 0) (marksAfter (c .list) (c .log) marks) marks
 
 -- what a call answers, and its mark bytes before and after
 pub record Leaves (call : Call) (marks : List ℕ) (answer : Outcome ℕ) (marks′ : List ℕ) : Type 0 where
-  pub answer-is : answer ≡ outcome (call .number) (call .value)
+  pub answer-is : answer ≡ outcome (call .refusal) (call .value)
   pub marks-are : marks′ ≡ marksLeft call marks

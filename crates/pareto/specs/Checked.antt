@@ -3,17 +3,17 @@ use Prim.Native.Nat.{ℕ}
 use mathlib.Core.List.{List}
 use lib.IntN.{ℤ}
 use Rattle.laws.specs.Checks.{_then_}
-use Rattle.laws.specs.First.{firstNumber}
-use Rattle.runs.specs.Log.{Log, rowCount, rowAt, logNumber}
-pub use Rattle.runs.specs.Log.{marksNumber}
-use Rattle.preference.specs.Valid.{listNumber}
-use Rattle.preference.specs.Parts.{rowNumber}
+use Rattle.laws.specs.First.{firstRefusal}
+use Rattle.log.specs.Log.{Log, rowCount, rowAt, logRefusal}
+pub use Rattle.log.specs.Log.{marksRefusal}
+use Rattle.preference.specs.Valid.{listRefusal}
+use Rattle.preference.specs.Parts.{rowRefusal}
 use Rattle.preference.specs.declared.PreferenceList.{PreferenceList}
 
 -- 8: a value of a row outside lo..hi of its wish
-unfoldable pub rowsNumber : PreferenceList → List ℤ → ℕ
-rowsNumber l log = firstNumber (λ r. rowNumber l (rowAt log r)) (rowCount log)
+unfoldable pub rowsRefusal : PreferenceList → List ℤ → ℕ
+rowsRefusal l log = firstRefusal (λ r. rowRefusal l (rowAt log r)) (rowCount log)
 
 -- the list, the log, what a call adds under 10, then 8
-unfoldable pub checkedNumber : PreferenceList → Log → ℕ → ℕ
-checkedNumber l log more = listNumber l then logNumber (log .values) then more then rowsNumber l (log .values)
+unfoldable pub checkedRefusal : PreferenceList → Log → ℕ → ℕ
+checkedRefusal l log more = listRefusal l then logRefusal (log .values) then more then rowsRefusal l (log .values)

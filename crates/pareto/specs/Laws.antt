@@ -5,4 +5,4 @@ pub mod Marks
 pub mod Call
 pub mod Counted
 pub mod Table
-pub mod Numbers
+pub mod Refusals

@@ -2,6 +2,6 @@ pub mod Dominance
 pub mod Best
 pub mod Call
 pub mod Checked
-pub mod Numbers
+pub mod Refusals
 pub mod Table
 pub mod Laws

@@ -7,27 +7,27 @@ ghost use mathlib.Core.Bool.{Bool};
 ghost use lib.ListN.{length, set};
 ghost use lib.Seq.{sets};
 ghost use Rattle.laws.specs.First.{anyBelow};
-ghost use Rattle.runs.specs.Log.{rowAt, logOf};
-ghost use Rattle.preference.specs.Parts.{rowNumber};
+ghost use Rattle.log.specs.Log.{rowAt, logOf};
+ghost use Rattle.preference.specs.Parts.{rowRefusal};
 ghost use Rattle.pareto.specs.Best.{competes, competing};
-ghost use Rattle.pareto.specs.Checked.{rowsNumber, checkedNumber};
+ghost use Rattle.pareto.specs.Checked.{rowsRefusal, checkedRefusal};
 ghost use Rattle.pareto.specs.Table.{lower, hasLower, relation, compared};
 
 // 8 or 0 of one row.
-fn row_at_number(list: PreferenceList, log: &[i32], r: usize) -> u8
-    ensures { λ k. ⌜ k ≡ rowNumber list (rowAt (now (log .entry)) r) ⌝ }
+fn row_at_refusal(list: PreferenceList, log: &[i32], r: usize) -> u8
+    ensures { λ k. ⌜ k ≡ rowRefusal list (rowAt (now (log .entry)) r) ⌝ }
 {
-    levels::row_number(list, runs::row(log, r))
+    levels::row_refusal(list, log::row(log, r))
 }
 
 // 8 where a value of a row lies outside the bounds of its wish, or 0.
-pub fn rows_number(list: PreferenceList, log: &[i32]) -> u8
-    ensures { λ k. ⌜ k ≡ rowsNumber list (now (log .entry)) ⌝ }
+pub fn rows_refusal(list: PreferenceList, log: &[i32]) -> u8
+    ensures { λ k. ⌜ k ≡ rowsRefusal list (now (log .entry)) ⌝ }
 {
-    let n = runs::row_count(log);
+    let n = log::row_count(log);
     let mut r: usize = 0;
     while r < n {
-        let k = row_at_number(list, log, r);
+        let k = row_at_refusal(list, log, r);
         if k != 0 {
             return k;
         }
@@ -37,21 +37,21 @@ pub fn rows_number(list: PreferenceList, log: &[i32]) -> u8
 }
 
 // The checks that engines share: the list, the log, the number of what a call adds under 10, then 8.
-pub fn checked_number(list: PreferenceList, log: &[i32], more: u8) -> u8
-    ensures { λ k. ⌜ k ≡ checkedNumber list (logOf (now (log .entry))) more ⌝ }
+pub fn checked_refusal(list: PreferenceList, log: &[i32], more: u8) -> u8
+    ensures { λ k. ⌜ k ≡ checkedRefusal list (logOf (now (log .entry))) more ⌝ }
 {
-    let of_list = preference::number(list);
+    let of_list = preference::refusal(list);
     if of_list != 0 {
         return of_list;
     }
-    let of_log = runs::number(log);
+    let of_log = log::refusal(log);
     if of_log != 0 {
         return of_log;
     }
     if more != 0 {
         return more;
     }
-    rows_number(list, log)
+    rows_refusal(list, log)
 }
 
 // ---- the competing rows
@@ -78,7 +78,7 @@ pub fn competing_rows(log: &[i32], rows: &mut [usize]) -> usize
         ⌜ (n ≡ length (competing (logOf (now (log .entry)))))
         × (now (rows .exit) ≡ sets (now (rows .entry)) 0 (competing (logOf (now (log .entry))))) ⌝ }
 {
-    let count = runs::row_count(log);
+    let count = log::row_count(log);
     let mut n: usize = 0;
     let mut r: usize = 0;
     while r < count {

@@ -1,4 +1,5 @@
--- Document 01, "Levels": the level of a value under a preference of the list, its greatest level, and the call that asks for one.
+-- Document 01, "Levels": the level of a value under a preference of the list, its greatest level, and the call that
+-- asks for one.
 use Prim.Native.Nat.{ℕ}
 use mathlib.Core.Bool.{Bool, not, _&&_, cond}
 use lib.Dec.{leb, ltb, eqb}
@@ -10,8 +11,8 @@ use Rattle.arith.specs.Gap.{eqZ}
 use Rattle.constructor.specs.Level.{numericLevel, maxLevel, layeringOf, inside}
 use Rattle.constructor.specs.declared.Layering.{Layering}
 use Rattle.constructor.specs.declared.Layering.the-variants.{Numeric, Layers}
-use Rattle.preference.specs.List.{constructorAt, namedAt, names}
-use Rattle.preference.specs.Valid.{listNumber}
+use Rattle.preference.specs.List.{constructorAt, namedAt, namedPlaces}
+use Rattle.preference.specs.Valid.{listRefusal}
 use Rattle.preference.specs.declared.PreferenceList.{PreferenceList}
 use Rattle.preference.specs.declared.LevelAnswer.{LevelAnswer}
 use Rattle.preference.specs.declared.LevelAnswer.the-variants.{Level, Refused}
@@ -22,11 +23,11 @@ isNamed l i v k = eqb (namedAt l k .preference) i && eqZ (namedAt l k .value) v
 
 -- the layer of the named value at place k, where that is one of the list's
 abbrev pub layerAt : PreferenceList → ℕ → ℕ → ℕ
-layerAt l k others = cond (ltb k (names l)) (namedAt l k .layer) others
+layerAt l k others = cond (ltb k (namedPlaces l)) (namedAt l k .layer) others
 
 -- "LAYERED: the layer of the first NAMED with that value, else the layer of other values."
 unfoldable pub layerOf : PreferenceList → ℕ → ℤ → ℕ → ℕ
-layerOf l i v others = layerAt l (firstAt (isNamed l i v) (names l)) others
+layerOf l i v others = layerAt l (firstAt (isNamed l i v) (namedPlaces l)) others
 
 abbrev pub levelUnder : PreferenceList → ℕ → ℤ → Layering → ℕ
 levelUnder l i v Numeric = numericLevel (constructorAt l i) v
@@ -41,12 +42,12 @@ unfoldable pub maxAt : PreferenceList → ℕ → ℕ
 maxAt l i = maxLevel (constructorAt l i)
 
 -- 8: "value outside lo..hi of its wish"
-unfoldable pub valueNumber : PreferenceList → ℕ → ℤ → ℕ
-valueNumber l i v = not (inside (constructorAt l i) v) gives 8
+unfoldable pub valueRefusal : PreferenceList → ℕ → ℤ → ℕ
+valueRefusal l i v = not (inside (constructorAt l i) v) gives 8
 
 -- the level of a value: the list's checks, "10 for a place past the count and then 8 for that value"
-unfoldable pub levelNumber : PreferenceList → ℕ → ℤ → ℕ
-levelNumber l i v = listNumber l then leb (l .count) i gives 10 then valueNumber l i v
+unfoldable pub levelRefusal : PreferenceList → ℕ → ℤ → ℕ
+levelRefusal l i v = listRefusal l then leb (l .count) i gives 10 then valueRefusal l i v
 
 -- the number or the value that an answer stands for
 abbrev pub outcomeOf : LevelAnswer → Outcome ℕ

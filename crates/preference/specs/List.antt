@@ -1,4 +1,5 @@
--- The preference list (document 01: the wish list "holds its eight places and 64 named values by value"), read place by place.
+-- The preference list (document 01: the wish list "holds its eight places and 64 named values by value"), read place by
+-- place.
 use Prim.Native.Nat.{ℕ, min}
 use lib.IntN.{pos}
 use lib.ListN.{getD}
@@ -30,5 +31,5 @@ namedAt l k = getD (l .named) k zeroNamed
 abbrev pub places : PreferenceList → ℕ
 places l = min (l .count) maxWishes
 
-abbrev pub names : PreferenceList → ℕ
-names l = min (l .namings) maxNamed
+abbrev pub namedPlaces : PreferenceList → ℕ
+namedPlaces l = min (l .namedcount) maxNamed

@@ -1,13 +1,14 @@
 -- What the engines know of a preference list: the level vector of a run and the greatest level of each of its parts
--- (document 01: "The engines know a wish only by its level and its M"). A preference gives a list of parts, here of one.
+-- (document 01: "The engines know a wish only by its level and its M"). A preference gives a list of parts, here of
+-- one.
 use Prim.Native.Nat.{ℕ, _-_}
 use mathlib.Core.List.{List, [], _∷_}
 use lib.IntN.{ℤ, pos}
 use lib.ListN.{getD, length}
-use Rattle.laws.specs.First.{firstNumber}
+use Rattle.laws.specs.First.{firstRefusal}
 use Rattle.laws.specs.Lists.{joined, listWith}
 use Rattle.preference.specs.List.{preferenceAt, places}
-use Rattle.preference.specs.Level.{levelAt, maxAt, valueNumber}
+use Rattle.preference.specs.Level.{levelAt, maxAt, valueRefusal}
 use Rattle.preference.specs.declared.PreferenceList.{PreferenceList}
 use Rattle.preference.specs.declared.PartAt.{PartAt}
 
@@ -30,8 +31,8 @@ levels l row = joined (levelParts l row) (places l)
 unfoldable pub maxLevels : PreferenceList → List ℕ
 maxLevels l = joined (maxParts l) (places l)
 
--- where part k of the level vectors is found: part `half` of the preference at `place`. Past the last part, the place is the first that the list does
--- not hold, and half says how far past the last k is.
+-- where part k of the level vectors is found: part `half` of the preference at `place`. Past the last part, the place
+-- is the first that the list does not hold, and half says how far past the last k is.
 unfoldable pub partOf : PreferenceList → ℕ → PartAt
 partOf l k =
     record {
@@ -40,5 +41,5 @@ partOf l k =
     }
 
 -- 8 for a run: one of its values lies outside the bounds of its preference
-unfoldable pub rowNumber : PreferenceList → List ℤ → ℕ
-rowNumber l row = firstNumber (λ i. valueNumber l i (rowValue l row i)) (places l)
+unfoldable pub rowRefusal : PreferenceList → List ℤ → ℕ
+rowRefusal l row = firstRefusal (λ i. valueRefusal l i (rowValue l row i)) (places l)

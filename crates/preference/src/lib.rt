@@ -4,8 +4,9 @@ ghost use mathlib.Core.Path.{_≡_};
 ghost use Prim.Native.Nat.{_-_, _<_, _≤_, min};
 ghost use Rattle.limits.specs.Limits.{maxWishes, maxNamed};
 ghost use Rattle.laws.specs.Checks.{_then_};
-ghost use Rattle.laws.specs.First.{firstNumber};
-ghost use Rattle.preference.specs.Valid.{taken, columnNumber, preferenceNumber, placeNumber, namedNumber, listNumber};
+ghost use Rattle.laws.specs.First.{firstRefusal};
+ghost use Rattle.preference.specs.Valid.{taken, columnRefusal, preferenceRefusal, placeRefusal, namedRefusal};
+ghost use Rattle.preference.specs.Valid.{listRefusal};
 
 // A wish: the column that it is about, and its form.
 pub struct Preference {
@@ -20,19 +21,19 @@ pub struct Named {
     pub layer: u8,
 }
 
-// The first `count` preferences and the first `namings` named values are the list; what stands past them is no part of it.
-// The fields are wide enough to hold figures that are refused.
+// The first `count` preferences and the first `namings` named values are the list; what stands past them is no part of
+// it. The fields are wide enough to hold figures that are refused.
 pub struct PreferenceList {
     pub count: u32,
     pub preferences: [Preference; limits::MAX_WISHES],
-    pub namings: u32,
+    pub namedcount: u32,
     pub named: [Named; limits::MAX_NAMED],
 }
 
 // The greatest counts of an accepted list, as its fields have them.
 pub const MAX_COUNT: u32 = limits::MAX_WISHES as u32;
 
-pub const MAX_NAMINGS: u32 = limits::MAX_NAMED as u32;
+pub const MAX_NAMED_COUNT: u32 = limits::MAX_NAMED as u32;
 
 // The level of a value, or the number that the call is refused by.
 pub enum LevelAnswer {
@@ -88,8 +89,8 @@ fn column_taken(list: PreferenceList, n: usize, column: u8) -> bool
 }
 
 // 5 for a column above 7, or one that a preference before place n has.
-fn column_number(list: PreferenceList, n: usize, column: u8) -> u8
-    ensures { λ r. ⌜ r ≡ columnNumber list n column ⌝ }
+fn column_refusal(list: PreferenceList, n: usize, column: u8) -> u8
+    ensures { λ r. ⌜ r ≡ columnRefusal list n column ⌝ }
 {
     if 7 < column {
         return 5;
@@ -101,32 +102,32 @@ fn column_number(list: PreferenceList, n: usize, column: u8) -> u8
 }
 
 // The number that p is refused by at place n of the list: 5, 6, 7, or 0.
-pub fn preference_number(list: PreferenceList, n: usize, p: Preference) -> u8
-    ensures { λ r. ⌜ r ≡ preferenceNumber list n p ⌝ }
+pub fn preference_refusal(list: PreferenceList, n: usize, p: Preference) -> u8
+    ensures { λ r. ⌜ r ≡ preferenceRefusal list n p ⌝ }
 {
     let column = p.column;
     let c = p.constructor;
-    let column_first = column_number(list, n, column);
-    let figures = constructor::number(c);
+    let column_first = column_refusal(list, n, column);
+    let figures = constructor::refusal(c);
     first_of(column_first, figures)
 }
 
-fn place_number(list: PreferenceList, i: usize) -> u8
+fn place_refusal(list: PreferenceList, i: usize) -> u8
     requires { ⌜ i < maxWishes ⌝ }
-    ensures { λ r. ⌜ r ≡ placeNumber list i ⌝ }
+    ensures { λ r. ⌜ r ≡ placeRefusal list i ⌝ }
 {
     let p = list.preferences[i];
-    preference_number(list, i, p)
+    preference_refusal(list, i, p)
 }
 
 // The first number of the first n preferences.
-fn places_number(list: PreferenceList, n: usize) -> u8
+fn places_refusal(list: PreferenceList, n: usize) -> u8
     requires { ⌜ n ≤ maxWishes ⌝ }
-    ensures { λ r. ⌜ r ≡ firstNumber (placeNumber list) n ⌝ }
+    ensures { λ r. ⌜ r ≡ firstRefusal (placeRefusal list) n ⌝ }
 {
     let mut i: usize = 0;
     while i < n {
-        let k = place_number(list, i);
+        let k = place_refusal(list, i);
         if k != 0 {
             return k;
         }
@@ -143,9 +144,9 @@ pub fn place_before(k: usize) -> usize
 }
 
 // The named value at place k: 3 for no such preference or one before the last named value's, then its layer's number.
-fn named_number(list: PreferenceList, k: usize) -> u8
+fn named_refusal(list: PreferenceList, k: usize) -> u8
     requires { ⌜ (list .count ≤ maxWishes) × (k < maxNamed) ⌝ }
-    ensures { λ r. ⌜ r ≡ namedNumber list k ⌝ }
+    ensures { λ r. ⌜ r ≡ namedRefusal list k ⌝ }
 {
     let e = list.named[k];
     let owner = e.preference;
@@ -162,17 +163,17 @@ fn named_number(list: PreferenceList, k: usize) -> u8
     let p = list.preferences[at];
     let c = p.constructor;
     let layer = e.layer;
-    constructor::layer_number(c, layer)
+    constructor::layer_refusal(c, layer)
 }
 
 // The first number of the first n named values.
-fn all_named_number(list: PreferenceList, n: usize) -> u8
+fn all_named_refusal(list: PreferenceList, n: usize) -> u8
     requires { ⌜ (list .count ≤ maxWishes) × (n ≤ maxNamed) ⌝ }
-    ensures { λ r. ⌜ r ≡ firstNumber (namedNumber list) n ⌝ }
+    ensures { λ r. ⌜ r ≡ firstRefusal (namedRefusal list) n ⌝ }
 {
     let mut i: usize = 0;
     while i < n {
-        let k = named_number(list, i);
+        let k = named_refusal(list, i);
         if k != 0 {
             return k;
         }
@@ -182,20 +183,20 @@ fn all_named_number(list: PreferenceList, n: usize) -> u8
 }
 
 // The number that a list is refused by, or 0.
-pub fn number(list: PreferenceList) -> u8
-    ensures { λ r. ⌜ r ≡ listNumber list ⌝ }
+pub fn refusal(list: PreferenceList) -> u8
+    ensures { λ r. ⌜ r ≡ listRefusal list ⌝ }
 {
     let count = list.count;
-    let namings = list.namings;
+    let namedcount = list.namedcount;
     if (count == 0) | (MAX_COUNT < count) {
         return 1;
     }
-    if MAX_NAMINGS < namings {
+    if MAX_NAMED_COUNT < namedcount {
         return 7;
     }
-    let k = places_number(list, count as usize);
+    let k = places_refusal(list, count as usize);
     if k != 0 {
         return k;
     }
-    all_named_number(list, namings as usize)
+    all_named_refusal(list, namedcount as usize)
 }

@@ -8,13 +8,13 @@ use lib.ListN.{length, take}
 use lib.Seq.{sets}
 use Rattle.limits.specs.Limits.{maxRuns}
 use Rattle.laws.specs.Lists.{joined}
-use Rattle.runs.specs.Log.{Log, rowCount}
+use Rattle.log.specs.Log.{Log, rowCount}
 use Rattle.preference.specs.declared.PreferenceList.{PreferenceList}
 use Rattle.pareto.specs.Best.{isBest}
 use Rattle.pareto.specs.Call.{Call}
 use Rattle.selection.specs.Selection.{eitherCall}
 use Rattle.selection.specs.Stream.{afterReading}
-use Rattle.lines.specs.Lines.{refusedText, headText, lineText}
+use Rattle.report_lines.specs.Lines.{refusedText, headText, lineText}
 
 -- a line for each shortlisted row, in order
 unfoldable pub linesText : PreferenceList → Log → List ℕ
@@ -23,8 +23,8 @@ linesText l log = joined (λ r. cond (isBest l log r) (lineText (log .values) r)
 -- "`refused N`, or one of rows and shortlisted rows, then per shortlisted row its number, hours and cubic metres"
 unfoldable pub textOf : Call → List ℕ
 textOf c =
-    cond (eqb (c .number) 0) (headText (rowCount (c .log .values)) (c .value) ++ linesText (c .list) (c .log))
-    (refusedText (c .number))
+    cond (eqb (c .refusal) 0) (headText (rowCount (c .log .values)) (c .value) ++ linesText (c .list) (c .log))
+    (refusedText (c .refusal))
 
 -- the program's call on a stream: it has a mark byte for each row that a log can have
 abbrev pub reportCall : List ℕ → Call

@@ -3,9 +3,9 @@ use Prim.Native.Nat.{ℕ}
 use mathlib.Core.List.{List}
 use Rattle.limits.specs.Limits.{maxValues}
 use Rattle.laws.specs.Checks.{_then_}
-use Rattle.runs.specs.Log.{Log, logOf}
+use Rattle.log.specs.Log.{Log, logOf}
 use Rattle.preference.specs.declared.PreferenceList.{PreferenceList}
-use Rattle.format.specs.Read.{readOf, valuesOf}
+use Rattle.stream_format.specs.Read.{readOf, valuesOf}
 use Rattle.pareto.specs.Call.{Call}
 
 abbrev pub listIn : List ℕ → PreferenceList
@@ -18,4 +18,4 @@ logIn s = logOf (valuesOf s)
 abbrev pub afterReading : List ℕ → (PreferenceList → Log → Call) → Call
 afterReading s call =
     let c = call (listIn s) (logIn s) in
-    record { list = c .list; log = c .log; number = readOf s maxValues .number then c .number; value = c .value }
+    record { list = c .list; log = c .log; refusal = readOf s maxValues .refusal then c .refusal; value = c .value }

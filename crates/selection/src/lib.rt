@@ -1,16 +1,16 @@
 // Best matches by an engine that brings its own work space.
-use bnl::WindowAnswer;
 use lattice::LatticeAnswer;
 use preference::PreferenceList;
+use window::WindowAnswer;
 ghost use mathlib.Core.Path.{_≡_};
 ghost use Prim.Native.Nat.{_≤_};
 ghost use lib.ListN.{length};
 ghost use Rattle.limits.specs.Limits.{maxRuns, maxNodes, maxWork};
-ghost use Rattle.runs.specs.Log.{logOf, rowCount};
+ghost use Rattle.log.specs.Log.{logOf, rowCount};
 ghost use Rattle.pareto.specs.Best.{markedRows};
 ghost use Rattle.pareto.specs.Call.{counting, Leaves};
 ghost use Rattle.lattice.specs.Engine.{latticeCall};
-ghost use Rattle.bnl.specs.Engine.{windowCall};
+ghost use Rattle.window.specs.Engine.{windowCall};
 ghost use Rattle.selection.specs.Selection.{one, outcomeOf, eitherCall};
 
 // The number of shortlisted rows, or the number that the call is refused by.
@@ -31,7 +31,7 @@ fn count_marked(marks: &[u8], log: &[i32]) -> u16
     requires { ⌜ rowCount (now log) ≤ maxRuns ⌝ }
     ensures { λ r. ⌜ r ≡ length (markedRows (now (marks .entry)) (rowCount (now (log .entry)))) ⌝ }
 {
-    let n = runs::row_count(log);
+    let n = log::row_count(log);
     let mut count: usize = 0;
     let mut r: usize = 0;
     while r < n {
@@ -61,7 +61,7 @@ pub fn by_window(list: PreferenceList, log: &[i32], marks: &mut [u8], w: u32) ->
         (now (marks .entry)) (outcomeOf r) (now (marks .exit)) ⌝ }
 {
     let mut work = [0u32; limits::MAX_WORK];
-    match bnl::run(list, log, marks, &mut work, w) {
+    match window::run(list, log, marks, &mut work, w) {
         WindowAnswer::Compared(_) => Selection::Best(count_marked(marks, log)),
         WindowAnswer::Refused(k) => Selection::Refused(k),
     }

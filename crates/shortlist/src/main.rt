@@ -4,7 +4,7 @@ use libc::STDOUT_FILENO;
 ghost use Prim.Native.Nat.{_+_, _≤_};
 ghost use lib.ListN.{length};
 ghost use Rattle.limits.specs.Limits.{maxStreamBytes};
-ghost use Rattle.format.specs.Kinds.{runRecord};
+ghost use Rattle.stream_format.specs.Kinds.{runRecord};
 ghost use Rattle.report.specs.Report.{reportEnd, ReportsFront};
 
 // The bytes kept for a stream and for its report.

@@ -3,8 +3,8 @@ use mathlib.Core.Path.{_≡_, refl}
 use Prim.Native.Nat.{ℕ, zero, suc, _<_, _≤_}
 use native.Mathlib.Omega.{arith}
 use lib.ListN.{List·getD-eq-default}
-use Rattle.format.specs.Kinds.{kind, kinds, kindOf}
-use Rattle.format.specs.declared.Class.the-variants.{Unknown, PreferenceRecord}
+use Rattle.stream_format.specs.Kinds.{kind, kinds, kindOf}
+use Rattle.stream_format.specs.declared.Class.the-variants.{Unknown, PreferenceRecord}
 
 pub preferences : (k : ℕ) → 1 ≤ k → k < 6 → kindOf k .class ≡ PreferenceRecord
 unfolding kindOf kinds

@@ -3,13 +3,13 @@ use crate::figures;
 use crate::kinds;
 use constructor::Constructor;
 use constructor::Layering;
-use format::Class;
-use format::ReadAnswer;
 use preference::PreferenceList;
+use stream_format::Class;
+use stream_format::ReadAnswer;
 ghost use mathlib.Core.Path.{_≡_};
 ghost use Prim.Native.Nat.{_≤_};
-ghost use Rattle.format.specs.Read.{lastConstructor, endsLayered, outOfPlace, namingNumber};
-ghost use Rattle.format.specs.Read.{figuresNumber, recordNumber};
+ghost use Rattle.stream_format.specs.Read.{lastConstructor, endsLayered, outOfPlace, namingRefusal};
+ghost use Rattle.stream_format.specs.Read.{figuresRefusal, recordRefusal};
 
 // The form of the last preference, or what stands at the first place where there is none.
 fn last_constructor(list: PreferenceList) -> Constructor
@@ -47,15 +47,15 @@ fn out_of_place(class: Class, r: ReadAnswer) -> bool
 }
 
 // 6 for the layer, 7 for the 65th named value.
-fn naming_number(list: PreferenceList, layer: u8) -> u8
+fn naming_refusal(list: PreferenceList, layer: u8) -> u8
     requires { ⌜ list .count ≤ 8 ⌝ }
-    ensures { λ n. ⌜ n ≡ namingNumber list layer ⌝ }
+    ensures { λ n. ⌜ n ≡ namingRefusal list layer ⌝ }
 {
-    let n = constructor::layer_number(last_constructor(list), layer);
+    let n = constructor::layer_refusal(last_constructor(list), layer);
     if n != 0 {
         return n;
     }
-    if preference::MAX_NAMINGS <= list.namings {
+    if preference::MAX_NAMED_COUNT <= list.namedcount {
         7
     } else {
         0
@@ -63,26 +63,26 @@ fn naming_number(list: PreferenceList, layer: u8) -> u8
 }
 
 // The number of a whole record in its place: 5, 6, 7, or 0.
-fn figures_number(class: Class, r: ReadAnswer, t: &[u8]) -> u8
+fn figures_refusal(class: Class, r: ReadAnswer, t: &[u8]) -> u8
     requires { ⌜ r .list .count ≤ 8 ⌝ }
-    ensures { λ n. ⌜ n ≡ figuresNumber class r (now (t .entry)) ⌝ }
+    ensures { λ n. ⌜ n ≡ figuresRefusal class r (now (t .entry)) ⌝ }
 {
     match class {
         Class::Unknown => 0,
-        Class::PreferenceRecord => preference::preference_number(
+        Class::PreferenceRecord => preference::preference_refusal(
             r.list,
             r.list.count as usize,
             figures::preference_of(t),
         ),
-        Class::NamedRecord => naming_number(r.list, word::get_u8(t, 5)),
+        Class::NamedRecord => naming_refusal(r.list, word::get_u8(t, 5)),
         Class::RunRecord => if limits::MAX_RUNS <= r.rows { 7 } else { 0 },
     }
 }
 
 // The number of the record that t begins with: 2, 3, 4, then its figures', or 0.
-pub fn record_number(r: ReadAnswer, t: &[u8]) -> u8
+pub fn record_refusal(r: ReadAnswer, t: &[u8]) -> u8
     requires { ⌜ r .list .count ≤ 8 ⌝ }
-    ensures { λ n. ⌜ n ≡ recordNumber r (now (t .entry)) ⌝ }
+    ensures { λ n. ⌜ n ≡ recordRefusal r (now (t .entry)) ⌝ }
 {
     let class = kinds::class_of(t);
     if kinds::is_unknown(class) {
@@ -94,5 +94,5 @@ pub fn record_number(r: ReadAnswer, t: &[u8]) -> u8
     if t.len() <= kinds::body_of(t) {
         return 4;
     }
-    figures_number(class, r, t)
+    figures_refusal(class, r, t)
 }

@@ -1,15 +1,15 @@
 // The figures of the record that t begins with, and what they add to the list and the rows.
 use constructor::Constructor;
-use format::Class;
 use preference::Named;
 use preference::Preference;
 use preference::PreferenceList;
+use stream_format::Class;
 ghost use mathlib.Core.Path.{_≡_};
 ghost use Prim.Native.Nat.{_-_, _<_, _≤_};
 ghost use Rattle.limits.specs.Limits.{maxRuns, maxWishes, maxNamed};
-ghost use Rattle.format.specs.Read.{constructorOf, preferenceOf, namedOf};
-ghost use Rattle.format.specs.Read.{addPreference, addNamed, listAfter, rowsAfter};
-ghost use Rattle.format.specs.declared.Class.the-variants.{PreferenceRecord, NamedRecord, RunRecord};
+ghost use Rattle.stream_format.specs.Read.{constructorOf, preferenceOf, namedOf};
+ghost use Rattle.stream_format.specs.Read.{addPreference, addNamed, listAfter, rowsAfter};
+ghost use Rattle.stream_format.specs.declared.Class.the-variants.{PreferenceRecord, NamedRecord, RunRecord};
 
 // Where the figures of a form with bounds stand; z stands where low does.
 const LO: usize = 2;
@@ -79,10 +79,10 @@ fn with_preference(list: PreferenceList, p: Preference) -> PreferenceList
 
 // The named value that t begins with belongs to the last preference.
 fn with_named(list: PreferenceList, t: &[u8]) -> PreferenceList
-    requires { ⌜ (list .count ≤ maxWishes) × (list .namings < maxNamed) ⌝ }
+    requires { ⌜ (list .count ≤ maxWishes) × (list .namedcount < maxNamed) ⌝ }
     ensures { λ r. ⌜ r ≡ addNamed list (namedOf (list .count - 1) (now (t .entry))) ⌝ }
 {
-    let n = list.namings;
+    let n = list.namedcount;
     let i = n as usize;
     let owner = preference::place_before(list.count as usize) as u8;
     let value = word::get_i32(t, 1);
@@ -93,14 +93,14 @@ fn with_named(list: PreferenceList, t: &[u8]) -> PreferenceList
         value,
         layer,
     };
-    grown.namings = n + 1;
+    grown.namedcount = n + 1;
     grown
 }
 
 pub fn list_after(class: Class, list: PreferenceList, t: &[u8]) -> PreferenceList
     requires { ⌜
         (class ≡ PreferenceRecord → list .count < 8)
-        × (class ≡ NamedRecord → (list .count ≤ maxWishes) × (list .namings < maxNamed)) ⌝ }
+        × (class ≡ NamedRecord → (list .count ≤ maxWishes) × (list .namedcount < maxNamed)) ⌝ }
     ensures { λ r. ⌜ r ≡ listAfter class list (now (t .entry)) ⌝ }
 {
     match class {

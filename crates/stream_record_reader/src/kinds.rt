@@ -1,9 +1,9 @@
 // What the kind byte of a record says.
-use format::Class;
+use stream_format::Class;
 ghost use mathlib.Core.Path.{_≡_};
 ghost use Prim.Native.Nat.{_≤_};
-ghost use Rattle.format.specs.Kinds.{runBody, classOf, bodyOf};
-ghost use Rattle.format.specs.Read.{isUnknown};
+ghost use Rattle.stream_format.specs.Kinds.{runBody, classOf, bodyOf};
+ghost use Rattle.stream_format.specs.Read.{isUnknown};
 
 // What the record that t begins with says, by its kind byte.
 pub fn class_of(t: &[u8]) -> Class

@@ -1,13 +1,13 @@
 // The values of a run, stored in the lent log.
 use crate::kinds;
-use format::Class;
+use stream_format::Class;
 ghost use mathlib.Core.Path.{_≡_};
 ghost use Prim.Native.Nat.{_+_, _<_, _≤_};
 ghost use lib.ListN.{length};
 ghost use lib.Seq.{sets};
 ghost use Rattle.word.specs.Word.{intAt};
-ghost use Rattle.format.specs.Kinds.{runBody, classOf, bodyOf};
-ghost use Rattle.format.specs.Read.{intsAt, valuesUnder};
+ghost use Rattle.stream_format.specs.Kinds.{runBody, classOf, bodyOf};
+ghost use Rattle.stream_format.specs.Read.{intsAt, valuesUnder};
 
 // The signed number at a place that has its four bytes.
 fn whole_i32(t: &[u8], at: usize) -> i32

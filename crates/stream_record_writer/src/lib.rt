@@ -1,5 +1,6 @@
 // Writing of one record. Each function stores bytes at a place and gives the place after them; a store past the
-// output's end does nothing. A part of the writer, and no call open to others: `writer` meets what its calls require.
+// output's end does nothing. Inside the writer, and no call open to others: `stream_writer` meets
+// what its calls require.
 use constructor::Constructor;
 use preference::Named;
 use preference::Preference;
@@ -8,10 +9,11 @@ ghost use mathlib.Core.List.{_++_};
 ghost use Prim.Native.Nat.{_+_, _*_, _<_};
 ghost use lib.ListN.{length};
 ghost use Rattle.limits.specs.Limits.{usizeEnd};
-ghost use Rattle.format.specs.Kinds.{wishRecord, namedRecord};
+ghost use Rattle.stream_format.specs.Kinds.{wishRecord, namedRecord};
 ghost use Rattle.word.specs.Word.{wordBytes, intBytes};
 ghost use Rattle.word.specs.Puts.{Puts};
-ghost use Rattle.format.specs.Write.{kindFor, constructorBytes, preferenceBytes, namedBytes, intsBytes, runBytes};
+ghost use Rattle.stream_format.specs.Write.{kindFor, constructorBytes, preferenceBytes, namedBytes, intsBytes};
+ghost use Rattle.stream_format.specs.Write.{runBytes};
 
 fn put_range(out: &mut [u8], at: usize, lo: i32, hi: i32, step: u32) -> usize
     requires { ⌜ at + 12 < usizeEnd ⌝ }

@@ -1,5 +1,1 @@
-pub mod Packed
-pub mod Comparing
-pub mod Scanning
-pub mod Judging
-pub mod Releasing
+pub mod Table

@@ -1,254 +1,87 @@
-// One row of a level table read by the window machine, whose state is in a lent work list. A part of the window engine, and no call open to
-// others: `passes` meets what its calls require.
+// The window engine, block nested loops with timestamps: the checks of its call, and the window machine on the level
+// table of what they accept.
+use preference::PreferenceList;
 ghost use mathlib.Core.Path.{_≡_};
-ghost use Prim.Native.Nat.{ℕ, _+_, _*_, _<_, _≤_};
-ghost use mathlib.Core.Bool.{Bool};
-ghost use lib.ListN.{getD, set, length};
-ghost use Rattle.limits.specs.Limits.{maxWindow, maxWork};
-ghost use Rattle.pareto.specs.Table.{compared};
-ghost use Rattle.machine.specs.Machine.{Entry};
-ghost use Rattle.machine.specs.Order.{Rising};
-ghost use Rattle.window.specs.Work.{tableDominates, entries, putEntry, Filtered, Released, Flags, Fronted, Scanned, Ready, Judged, Read};
+ghost use Prim.Native.Nat.{ℕ, _+_, _*_, _/_, _<_, _≤_};
+ghost use lib.ListN.{length};
+ghost use Rattle.log.specs.Log.{logOf};
+ghost use Rattle.pareto.specs.Best.{marksAfter};
+ghost use Rattle.pareto.specs.Call.{Leaves};
+ghost use Rattle.window.specs.Engine.{sizesRefusal, machineOf, windowCall, WorkLeft, outcomeOf, Runnable};
 
-// ---- the lent lists: a place past the end reads as 0, and a store there does nothing
+// The compares made, or the number that the call is refused by.
+pub enum WindowAnswer {
+    Compared(u32),
+    Refused(u8),
+}
 
-pub fn word(work: &[u32], i: usize) -> u32
-    ensures { λ n. ⌜ n ≡ getD (now (work .entry)) i 0 ⌝ }
+// 10 where the marks or the work list are too short, or w is not 1 to 1,024.
+fn sizes_refusal(log: &[i32], marks: usize, work: usize, w: u32) -> u8
+    ensures { λ k. ⌜ k ≡ sizesRefusal (logOf (now (log .entry))) marks work w ⌝ }
 {
-    if i < work.len() { work[i] } else { 0 }
-}
-
-fn store(work: &mut [u32], i: usize, n: u32)
-    ensures { λ _. ⌜ now (work .exit) ≡ set (now (work .entry)) i n ⌝ }
-{
-    if i < work.len() {
-        work[i] = n;
+    let short = log::marks_refusal(log, marks);
+    if short != 0 {
+        return short;
     }
-}
-
-pub fn put_entry(work: &mut [u32], i: usize, row: u32, timestamp: u32)
-    requires { ⌜ i ≤ maxWork ⌝ }
-    ensures { λ _. ⌜ now (work .exit) ≡ putEntry (now (work .entry)) i row timestamp ⌝ }
-{
-    store(work, 2 * i, row);
-    store(work, 2 * i + 1, timestamp);
-}
-
-pub fn mark(marks: &mut [u8], row: usize)
-    ensures { λ _. ⌜ now (marks .exit) ≡ set (now (marks .entry)) row 1 ⌝ }
-{
-    word::put_u8(marks, row, 1);
-}
-
-// ---- reading one row
-
-// How many entries, the oldest first, are apart from a row: neither dominates the other. How the next one, if there is
-// one, and the row stand.
-pub struct Front {
-    pub at: usize,
-    pub relation: u8,
-}
-
-// Whether a row is dropped, from which entry on `remove` has to look, and how many compares told so.
-pub struct Verdict {
-    pub dropped: bool,
-    pub from: usize,
-    pub compares: usize,
-}
-
-// The row of an entry that the work list holds.
-fn entry_row(work: &[u32], at: usize) -> usize
-    requires { ⌜ (at ≤ maxWindow) × (2 * at < length (now work)) ⌝ }
-    ensures { λ r. ⌜ r ≡ getD (now (work .entry)) (2 * at) 0 ⌝ }
-{
-    work[2 * at] as usize
-}
-
-// How an entry of the window and a row stand; behind the last they are apart.
-fn entry_compared(table: &[u16], work: &[u32], at: usize, held: usize, row: u32) -> u8
-    requires { ⌜ (held ≤ maxWindow) × (2 * held ≤ length (now work)) ⌝ }
-    ensures { λ k. ⌜ (at < held → k ≡ compared (now (table .entry)) (getD (now (work .entry)) (2 * at) 0) row) ⌝ }
-{
-    if held <= at {
-        return pareto::INCOMPARABLE;
+    if (w == 0) | (limits::MAX_WINDOW < w) {
+        return 10;
     }
-    pareto::compare(table, entry_row(work, at), row as usize)
+    let n = log::row_count(log);
+    if work < 2 * (n + w as usize) { 10 } else { 0 }
 }
 
-// Most entries are apart from a row: a short loop of its own passes them.
-fn apart(table: &[u16], work: &[u32], held: usize, row: u32) -> Front
-    requires { ⌜ (held ≤ maxWindow) × (2 * held ≤ length (now work)) ⌝ }
-    ensures { λ f. ⌜ Fronted (now (table .entry)) row (now (work .entry)) held f ⌝ }
-{
-    let mut left = held;
-    while 0 < left {
-        let at = held - left;
-        let lower = pareto::lower_levels(table, entry_row(work, at), row as usize);
-        if lower.first != lower.second {
-            return Front {
-                at,
-                relation: lower.relation,
-            };
-        }
-        left -= 1;
-    }
-    Front {
-        at: held,
-        relation: pareto::INCOMPARABLE,
-    }
-}
-
-// Compares a row with the window's entries, the oldest that is left first, until one dominates it. Behind the entries that are apart, each
-// compare is kept as a flag for `remove`.
-fn scan(table: &[u16], work: &[u32], held: usize, row: u32, flags: &mut [u8]) -> Verdict
-    requires { ⌜ (held ≤ maxWindow) × (2 * held ≤ length (now work)) × (held ≤ length (now flags)) ⌝ }
-    ensures { λ v. ⌜ Scanned (tableDominates (now (table .entry))) row (now (work .entry)) held (now (flags .exit)) v ⌝ }
-{
-    let front = apart(table, work, held, row);
-    let from = front.at;
-    let mut at = from;
-    let mut relation = front.relation;
-    let mut dominates = false;
-    while at < held {
-        if relation == pareto::FIRST_DOMINATES {
-            return Verdict {
-                dropped: true,
-                from,
-                compares: at + 1,
-            };
-        }
-        dominates = dominates | (relation == pareto::SECOND_DOMINATES);
-        flags[at] = relation;
-        at += 1;
-        relation = entry_compared(table, work, at, held, row);
-    }
-    if dominates {
-        return Verdict {
-            dropped: false,
-            from,
-            compares: held,
-        };
-    }
-    Verdict {
-        dropped: false,
-        from: held,
-        compares: held,
-    }
-}
-
-// Removes the entries that the row dominates by their flags, from one entry on; how many stay comes back.
-fn remove(flags: &[u8], work: &mut [u32], from: usize, held: usize) -> usize
-    requires { ⌜ (held ≤ maxWindow) × (from ≤ held) × (held ≤ length (now flags)) × (2 * held ≤ length (now work)) ⌝ }
-    ensures { λ m. ⌜ ((p : Entry → Bool) → Flags p (now (work .entry)) from held (now (flags .entry)) → Filtered p (now (work .entry)) (now (work .exit)) held m) ⌝ }
-{
-    let mut i = from;
-    let mut m = from;
-    while i < held {
-        let row = word(work, 2 * i);
-        let timestamp = word(work, 2 * i + 1);
-        if flags[i] != pareto::SECOND_DOMINATES {
-            put_entry(work, m, row, timestamp);
-            m += 1;
-        }
-        i += 1;
-    }
-    m
-}
-
-// Releases the entries with a timestamp below s: their rows are marked. How many stay comes back. The first entry has the smallest timestamp.
-fn release(work: &mut [u32], held: usize, s: u32, marks: &mut [u8]) -> usize
-    requires { ⌜ (held ≤ maxWindow) × (2 * held ≤ length (now work)) × Rising (entries (now work) 0 held) ⌝ }
-    ensures { λ m. ⌜ Released s (now (work .entry)) (now (work .exit)) held m (now (marks .entry)) (now (marks .exit)) ⌝ }
-{
-    if s <= word(work, 1) {
-        return held;
-    }
-    let mut i: usize = 0;
-    let mut m: usize = 0;
-    while i < held {
-        let row = word(work, 2 * i);
-        let timestamp = word(work, 2 * i + 1);
-        if timestamp < s {
-            mark(marks, row as usize);
-        } else {
-            put_entry(work, m, row, timestamp);
-            m += 1;
-        }
-        i += 1;
-    }
-    m
-}
-
-// Where the machine stands, beside its lists: entries in the window, entries set aside, the clock, the compares made.
-pub struct Standing {
-    pub held: usize,
-    pub overflow: usize,
-    pub clock: u32,
-    pub count: usize,
-}
-
-// Compares a row with the window, and drops it, enters it or sets it aside.
-fn judge(
-    table: &[u16],
-    w: usize,
-    work: &mut [u32],
-    flags: &mut [u8],
-    p: Standing,
-    row: u32,
-) -> Standing
-    requires { ⌜ Ready w (length (now work)) (length (now flags)) p ⌝ }
-    ensures { λ q. ⌜ Judged (tableDominates (now (table .entry))) w row (now (work .entry)) p (now (work .exit)) q ⌝ }
-{
-    let verdict = scan(table, work, p.held, row, flags);
-    let clock = p.clock + 1;
-    let count = p.count + verdict.compares;
-    let overflow = p.overflow;
-    if verdict.dropped {
-        return Standing {
-            held: p.held,
-            overflow,
-            clock,
-            count,
-        };
-    }
-    let held = remove(flags, work, verdict.from, p.held);
-    if held < w {
-        put_entry(work, held, row, clock);
-        return Standing {
-            held: held + 1,
-            overflow,
-            clock,
-            count,
-        };
-    }
-    put_entry(work, w + overflow, row, clock);
-    Standing {
-        held,
-        overflow: overflow + 1,
-        clock,
-        count,
-    }
-}
-
-pub fn read_row(
-    table: &[u16],
-    w: usize,
-    work: &mut [u32],
+// The engine on what the checks accepted.
+fn run_accepted(
+    list: PreferenceList,
+    log: &[i32],
     marks: &mut [u8],
-    flags: &mut [u8],
-    p: Standing,
-    row: u32,
-    timestamp: u32,
-) -> Standing
-    requires { ⌜ Ready w (length (now work)) (length (now flags)) p × Rising (entries (now work) 0 (p .held)) ⌝ }
-    ensures { λ q. ⌜ Read (tableDominates (now (table .entry))) w (record { row = row; timestamp = timestamp }) (now (work .entry)) (now (marks .entry)) p (now (work .exit)) (now (marks .exit)) q ⌝ }
+    work: &mut [u32],
+    w: u32,
+) -> u32
+    requires { ⌜ Runnable list (logOf (now log)) (length (now marks)) (length (now work)) w ⌝ }
+    ensures { λ c.
+        ⌜ (c ≡ machineOf list (logOf (now (log .entry))) w .count)
+        × (now (marks .exit) ≡ marksAfter list (logOf (now (log .entry))) (now (marks .entry))) ⌝ }
 {
-    let held = release(work, p.held, timestamp, marks);
-    let q = Standing {
-        held,
-        overflow: p.overflow,
-        clock: p.clock,
-        count: p.count,
-    };
-    judge(table, w, work, flags, q, row)
+    let mut table = [0u16; limits::MAX_VALUES];
+    let length = level_table::table_length(list, log);
+    level_table::fill_table(list, log, &mut table[..length]);
+    let mut rows = [0usize; limits::MAX_RUNS];
+    let count = pareto::competing_rows(log, &mut rows);
+    let n = log::row_count(log);
+    window_passes::run_rows(
+        &table[..length],
+        &rows[..count],
+        w as usize,
+        &mut marks[..n],
+        work,
+    ) as u32
+}
+
+// Marks the best matches of a log, with a window of w entries.
+pub fn run(
+    list: PreferenceList,
+    log: &[i32],
+    marks: &mut [u8],
+    work: &mut [u32],
+    w: u32,
+) -> WindowAnswer
+    ensures { λ r.
+        ⌜ Leaves
+        (windowCall list (logOf (now (log .entry))) (length (now (marks .entry))) (length (now (work .entry))) w)
+        (now (marks .entry)) (outcomeOf r) (now (marks .exit)) ⌝ }
+    ensures { λ r.
+        ⌜ WorkLeft
+        (windowCall list (logOf (now (log .entry))) (length (now (marks .entry))) (length (now (work .entry))) w)
+        (now (work .entry)) (now (work .exit)) ⌝ }
+{
+    let refusal = pareto::checked_refusal(
+        list,
+        log,
+        sizes_refusal(log, marks.len(), work.len(), w),
+    );
+    if refusal != 0 {
+        return WindowAnswer::Refused(refusal);
+    }
+    WindowAnswer::Compared(run_accepted(list, log, marks, work, w))
 }

@@ -54,7 +54,7 @@ fn check(input: &[u8]) -> String {
     check_in_pieces(input, usize::MAX, Duration::ZERO)
 }
 
-/// How often each kind of first line came: `runs`, or `refused N`.
+/// How often each kind of first line came: `log`, or `refused N`.
 #[derive(Default)]
 struct Lines(BTreeMap<String, u32>);
 

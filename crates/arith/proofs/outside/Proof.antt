@@ -25,7 +25,8 @@ cast-result c =
     let f = s .fits in
     let e : c .before .signed-gap .result + c .signed-gap2 .result ≡ gap (a .low) (a .v) + gap (a .v) (a .up) =
     rw (c .before .signed-gap .ensures .0, c .signed-gap2 .ensures .0, num (a .low) (f .low .sfits), num (a .v) (f .v .sfits), num (a .up) (f .up .sfits)) in
-    let m = outside-small (a .low) (a .up) (a .v) 4294967296 (diff-small _ _ (f .low) (f .v)) (diff-small _ _ (f .v) (f .up)) (diff-small _ _ (f .low) (f .up)) in
+    let m =
+    outside-small (a .low) (a .up) (a .v) 4294967296 (diff-small _ _ (f .low) (f .v)) (diff-small _ _ (f .v) (f .up)) (diff-small _ _ (f .low) (f .up)) in
     omega arith
 
 returns : tie.Need-returns

@@ -2,7 +2,8 @@
 use mathlib.Core.Path.{_≡_, ap, _∙_}
 use Prim.Native.Nat.{ℕ, zero, suc, _+_, _-_, _*_, _/_, _%_, _<_, _≤_}
 use native.Mathlib.Omega.{arith}
-use native.Mathlib.Nat.{div-zero, div-add-mod', mod-lt, div-lt-iff-lt-mul, add-div-right, suc-mul, mul-suc, zero-mul, le-trans}
+use native.Mathlib.Nat.{div-zero, div-add-mod', mod-lt, div-lt-iff-lt-mul, add-div-right, suc-mul, mul-suc, zero-mul}
+use native.Mathlib.Nat.{le-trans}
 use lib.Arith.{digits-div}
 use Rattle.arith.specs.Ceil.{ceilDiv}
 
@@ -22,7 +23,8 @@ pub ceil-more : (d s : ℕ) → 0 < s → (d % s ≡ 0 → ⊥) → ceilDiv d s 
 unfolding ceilDiv
 ceil-more d s hs hm =
     let e : d + (s - 1) ≡ d / s * s + (d % s - 1) + s = omega (arith, div-add-mod' d s) in
-    rw e (add-div-right (d / s * s + (d % s - 1)) hs ∙ ap (λ (n : ℕ). n + 1) (digits-div (d / s) (omega (arith, mod-lt d hs))))
+    rw e (add-div-right (d / s * s + (d % s - 1)) hs
+    ∙ ap (λ (n : ℕ). n + 1) (digits-div (d / s) (omega (arith, mod-lt d hs))))
 
 -- at most k exactly when the distance is at most k steps
 pub ceil-le : (d s k : ℕ) → 0 < s → d ≤ k * s → ceilDiv d s ≤ k

@@ -116,7 +116,8 @@ module _ (low up v : ℤ) (m : ℕ) (below : gap low v < m) (above : gap v up < 
 
 -- ---- document 01's words: a - b where b is not above a, and |a - b|
 
-sub-pos : (a b : ℕ) (t : Bool) → ltb a b ≡ t → b ≤ a → pos (clip (cond t (negsuc (b - suc a)) (pos (a - b)))) ≡ cond t (negsuc (b - suc a)) (pos (a - b))
+sub-pos : (a b : ℕ) (t : Bool) → ltb a b ≡ t → b ≤ a
+    → pos (clip (cond t (negsuc (b - suc a)) (pos (a - b)))) ≡ cond t (negsuc (b - suc a)) (pos (a - b))
 sub-pos a b true e h = let q : a < b = ltb-true a b e in let z : ⊥ = omega arith in absurd z
 sub-pos a b false e h = refl
 
@@ -126,7 +127,8 @@ gap-exact (pos a) (pos zero) h = refl
 gap-exact (pos a) (pos (suc b)) h = sub-pos a (suc b) (ltb a (suc b)) refl (leb-true (suc b) a h)
 gap-exact (pos a) (negsuc b) h = refl
 gap-exact (negsuc a) (pos b) h = false-true h
-gap-exact (negsuc a) (negsuc b) h = let l = leb-true a b h in sub-pos (suc b) (suc a) (ltb (suc b) (suc a)) refl (omega arith)
+gap-exact (negsuc a) (negsuc b) h =
+    let l = leb-true a b h in sub-pos (suc b) (suc a) (ltb (suc b) (suc a)) refl (omega arith)
 
 sub-abs : (a b : ℕ) (t : Bool) → ltb a b ≡ t → natAbs (cond t (negsuc (b - suc a)) (pos (a - b))) ≡ (a - b) + (b - a)
 sub-abs a b true e = let h : a < b = ltb-true a b e in omega arith

@@ -7,7 +7,7 @@ use lib.IntN.{ℤ}
 use lib.ListN.{length, take}
 use Rattle.arith.specs.Laws.Local.{num}
 use Rattle.laws.specs.Outcome.{refused}
-use Rattle.runs.specs.Log.{Log, logOf}
+use Rattle.log.specs.Log.{Log, logOf}
 use Rattle.preference.specs.declared.PreferenceList.{PreferenceList}
 use Rattle.pareto.specs.Call.{Call, counting, Leaves}
 use Rattle.pareto.specs.Laws.Call.{never-zero, leaves-told}
@@ -17,7 +17,7 @@ use Rattle.selection.specs.Laws.Stream.{few-numbers, rows-fit, rows-long, unrea
 use Rattle.console.specs.Flat.{signedOutcome, flatLatticeCall}
 use Rattle.console.proofs.shortlist_lattice.Statement.{statement}
 use Rattle.console.proofs.shortlist_lattice.Tie as tie
-use Rattle.reader.proofs.read.Reads as read-reads
+use Rattle.stream_reader.proofs.read.Reads as read-reads
 use Rattle.selection.proofs.by_lattice.Reads as by-lattice-reads
 use Rattle.console.proofs.signed.Reads as signed-reads
 
@@ -39,11 +39,11 @@ module _ (q : tie.After-read) where
   due l log = counting (latticeCall l log (length marks) 32768 (begun .args .budget))
 
   -- reading refused the stream
-  unread : (q .read .result .number ≡ 0 → ⊥)
-      → Leaves (flatLatticeCall stream (length marks) (begun .args .budget)) marks (refused (q .read .result .number)) marks
+  unread : (q .read .result .refusal ≡ 0 → ⊥)
+      → Leaves (flatLatticeCall stream (length marks) (begun .args .budget)) marks (refused (q .read .result .refusal)) marks
   unread = unread-leaves stream (q .read .result) filled (q .read .ensures .0) (q .read .ensures .1) due marks
 
-  module _ (z : q .read .result .number ≡ 0) where
+  module _ (z : q .read .result .refusal ≡ 0) where
     few : 8 * q .read .result .rows ≤ 8192
     few = few-numbers stream (q .read .result) filled (q .read .ensures .0) (q .read .ensures .1) z
 

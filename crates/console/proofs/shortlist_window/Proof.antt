@@ -7,17 +7,17 @@ use lib.IntN.{ℤ}
 use lib.ListN.{length, take}
 use Rattle.arith.specs.Laws.Local.{num}
 use Rattle.laws.specs.Outcome.{refused}
-use Rattle.runs.specs.Log.{Log, logOf}
+use Rattle.log.specs.Log.{Log, logOf}
 use Rattle.preference.specs.declared.PreferenceList.{PreferenceList}
 use Rattle.pareto.specs.Call.{Call, counting, Leaves}
 use Rattle.pareto.specs.Laws.Call.{never-zero, leaves-told}
-use Rattle.bnl.specs.Engine.{windowCall}
+use Rattle.window.specs.Engine.{windowCall}
 use Rattle.selection.specs.Selection.{outcomeOf}
 use Rattle.selection.specs.Laws.Stream.{few-numbers, rows-fit, rows-long, unread-leaves, read-leaves}
 use Rattle.console.specs.Flat.{signedOutcome, flatWindowCall}
 use Rattle.console.proofs.shortlist_window.Statement.{statement}
 use Rattle.console.proofs.shortlist_window.Tie as tie
-use Rattle.reader.proofs.read.Reads as read-reads
+use Rattle.stream_reader.proofs.read.Reads as read-reads
 use Rattle.selection.proofs.by_window.Reads as by-window-reads
 use Rattle.console.proofs.signed.Reads as signed-reads
 
@@ -39,11 +39,11 @@ module _ (q : tie.After-read) where
   due l log = counting (windowCall l log (length marks) 4096 (begun .args .w))
 
   -- reading refused the stream
-  unread : (q .read .result .number ≡ 0 → ⊥)
-      → Leaves (flatWindowCall stream (length marks) (begun .args .w)) marks (refused (q .read .result .number)) marks
+  unread : (q .read .result .refusal ≡ 0 → ⊥)
+      → Leaves (flatWindowCall stream (length marks) (begun .args .w)) marks (refused (q .read .result .refusal)) marks
   unread = unread-leaves stream (q .read .result) filled (q .read .ensures .0) (q .read .ensures .1) due marks
 
-  module _ (z : q .read .result .number ≡ 0) where
+  module _ (z : q .read .result .refusal ≡ 0) where
     few : 8 * q .read .result .rows ≤ 8192
     few = few-numbers stream (q .read .result) filled (q .read .ensures .0) (q .read .ensures .1) z
 

@@ -32,14 +32,14 @@ cast-result-2 c = search needs
 
 -- a refusal number
 module _ (c : tie.After-known-told2) where
-  abbrev number : ℕ
-  number = c .before .selection2 .given .0 .0
+  abbrev refusal : ℕ
+  refusal = c .before .selection2 .given .0 .0
 
-  small : number < 2147483648
+  small : refusal < 2147483648
   small = omega (arith, c .known-told2 .given .0 .1)
 
 sub-result : tie.Need-sub-result
-sub-result c = subst (SFits w32) (sym (minus-is (number c) (small c))) (neg-fits (number c) (small c))
+sub-result c = subst (SFits w32) (sym (minus-is (refusal c) (small c))) (neg-fits (refusal c) (small c))
 
 returns : tie.Need-returns
 returns c =
@@ -49,7 +49,7 @@ returns c =
 
 returns-2 : tie.Need-returns-2
 returns-2 c =
-    let k = number c in
+    let k = refusal c in
     let e = ap outcomeOf (c .before .selection2 .given .1) in
     ap signedOutcome (ap (λ (z : ℤ). toZ w32 (ofZ w32 z)) (minus-is k (small c)) ∙ toZ-ofZ {w = w32} (neg-fits k (small c)))
     ∙ below-zero k (λ z. c .before .before .before .pre (e ∙ z))

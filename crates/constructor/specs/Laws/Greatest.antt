@@ -1,4 +1,5 @@
--- "M, a wish's greatest level, is the greatest over lo..hi": an end of lo..hi has it, and no value of lo..hi has a greater one.
+-- "M, a wish's greatest level, is the greatest over lo..hi": an end of lo..hi has it, and no value of lo..hi has a
+-- greater one.
 use mathlib.Core.Path.{_≡_, refl, sym}
 use Prim.Native.Nat.{ℕ, _+_, _≤_, max}
 use native.Mathlib.Omega.{arith, max-cases}
@@ -20,12 +21,14 @@ use Rattle.constructor.specs.declared.Layering.the-variants.{Numeric}
 
 -- with low not above up, a value of lo..hi is no farther off than one of the ends
 module _ (lo hi low up v : ℤ) (hl : leZ lo v ≡ true) (hh : leZ v hi ≡ true) (hm : leZ low up ≡ true) where
-  mid : (t : Bool) → leZ v up ≡ t → (gap low v + gap v up ≤ gap low lo + gap lo up) ⊎ (gap low v + gap v up ≤ gap low hi + gap hi up)
+  mid : (t : Bool) → leZ v up ≡ t
+      → (gap low v + gap v up ≤ gap low lo + gap lo up) ⊎ (gap low v + gap v up ≤ gap low hi + gap hi up)
   mid true e = inl (omega (arith, gap-none v up e, gap-down lo v low hl))
   mid false e = inr (omega (arith, gap-none low v (le-trans-Z low up v hm (not-le-Z v up e)), gap-up v hi up hh))
 
 -- the bounds of BETWEEN and AROUND that are sound
-ordered-between : (lo hi low up : ℤ) (b : Bool) → leZ lo low && leZ low up && leZ up hi && b ≡ true → (leZ lo low ≡ true) × (leZ low up ≡ true) × (leZ up hi ≡ true)
+ordered-between : (lo hi low up : ℤ) (b : Bool) → leZ lo low && leZ low up && leZ up hi && b ≡ true
+    → (leZ lo low ≡ true) × (leZ low up ≡ true) × (leZ up hi ≡ true)
 ordered-between lo hi low up b s =
     let p = both (leZ lo low && leZ low up && leZ up hi) b s .0 in
     let q = both (leZ lo low && leZ low up) (leZ up hi) p in
@@ -36,13 +39,15 @@ ordered-around : (lo hi z : ℤ) (b : Bool) → leZ lo z && leZ z hi && b ≡ tr
 ordered-around lo hi z b s = both (leZ lo z) (leZ z hi) (both (leZ lo z && leZ z hi) b s .0)
 
 -- the farther end
-far : (c : Constructor) (v : ℤ) → sound c ≡ true → inside c v ≡ true → (distance c v ≤ distance c (scaleOf c .lo)) ⊎ (distance c v ≤ distance c (scaleOf c .hi))
+far : (c : Constructor) (v : ℤ) → sound c ≡ true → inside c v ≡ true
+    → (distance c v ≤ distance c (scaleOf c .lo)) ⊎ (distance c v ≤ distance c (scaleOf c .hi))
 unfolding distance sound inside
 far (Lowest lo hi step) v s h = inr (gap-up v hi lo (both (leZ lo v) (leZ v hi) h .1))
 far (Highest lo hi step) v s h = inl (gap-down lo v hi (both (leZ lo v) (leZ v hi) h .0))
 far (Around lo hi step z) v s h =
     let i = both (leZ lo v) (leZ v hi) h in
-    ⊎-elim (λ e. inl (omega arith)) (λ e. inr (omega arith)) (mid lo hi z z v (i .0) (i .1) (le-refl-Z z) (leZ v z) refl)
+    ⊎-elim (λ e. inl (omega arith)) (λ e. inr (omega arith))
+    (mid lo hi z z v (i .0) (i .1) (le-refl-Z z) (leZ v z) refl)
 far (Between lo hi step low up) v s h =
     let i = both (leZ lo v) (leZ v hi) h in
     mid lo hi low up v (i .0) (i .1) (ordered-between lo hi low up (ltb 0 step) s .1) (leZ v up) refl
@@ -59,7 +64,8 @@ ordered (Between lo hi step low up) y s =
 ordered (Layered top others) y s = refl
 
 -- no value of lo..hi has a level above both ends'
-pub level-ends : (c : Constructor) (v : ℤ) → sound c ≡ true → inside c v ≡ true → numericLevel c v ≤ max (numericLevel c (scaleOf c .lo)) (numericLevel c (scaleOf c .hi))
+pub level-ends : (c : Constructor) (v : ℤ) → sound c ≡ true → inside c v ≡ true
+    → numericLevel c v ≤ max (numericLevel c (scaleOf c .lo)) (numericLevel c (scaleOf c .hi))
 level-ends c v s h =
     let m = numericLevel c (scaleOf c .lo) in
     let n = numericLevel c (scaleOf c .hi) in

@@ -1,5 +1,5 @@
--- The definitions say what documents 01 and 000 say: each distance in the document's words, 000's derivations of one constructor
--- from another (Def. 8 and 9), and what a level says of a distance.
+-- The definitions say what documents 01 and 000 say: each distance in the document's words, 000's derivations of one
+-- constructor from another (Def. 8 and 9), and what a level says of a distance.
 use mathlib.Core.Path.{_≡_, sym, ap, _∙_}
 use Prim.Native.Nat.{ℕ, _+_, _*_, _<_, _≤_}
 use native.Mathlib.Omega.{arith}
@@ -62,7 +62,11 @@ pub record Alike (c d : Constructor) : Type 0 where
 -- Def. 8: AROUND is BETWEEN with low = up = z
 pub around-between : (lo hi : ℤ) (step : ℕ) (z : ℤ) → Alike (Around lo hi step z) (Between lo hi step z z)
 unfolding distance maxLevel
-around-between lo hi step z = record { level-alike = λ v h. rw (add-comm (gap v z) (gap z v)); max-alike = rw (add-comm (gap lo z) (gap z lo), add-comm (gap hi z) (gap z hi)) }
+around-between lo hi step z =
+    record {
+      level-alike = λ v h. rw (add-comm (gap v z) (gap z v));
+      max-alike = rw (add-comm (gap lo z) (gap z lo), add-comm (gap hi z) (gap z hi));
+    }
 
 -- Def. 9 b): LOWEST is AROUND at lo
 pub lowest-around : (lo hi : ℤ) (step : ℕ) → leZ lo hi ≡ true → Alike (Lowest lo hi step) (Around lo hi step lo)
@@ -92,9 +96,15 @@ highest-around lo hi step o =
 
 module _ (c : Constructor) (v : ℤ) (h : 0 < scaleOf c .step) where
   -- the level is at most k exactly when v lies within k steps: what a level is checked by with a pencil
-  pub level-within : (k : ℕ) → (numericLevel c v ≤ k → distance c v ≤ k * scaleOf c .step) × (distance c v ≤ k * scaleOf c .step → numericLevel c v ≤ k)
+  pub level-within : (k : ℕ)
+      → (numericLevel c v ≤ k → distance c v ≤ k * scaleOf c .step)
+      × (distance c v ≤ k * scaleOf c .step → numericLevel c v ≤ k)
   level-within k = (le-ceil (distance c v) (scaleOf c .step) k h, ceil-le (distance c v) (scaleOf c .step) k h)
 
   -- level 0 is for what is wished for, and for nothing else
   pub level-best : (numericLevel c v ≡ 0 → distance c v ≡ 0) × (distance c v ≡ 0 → numericLevel c v ≡ 0)
-  level-best = (ceil-none-only (distance c v) (scaleOf c .step) h, λ e. ap (λ (d : ℕ). ceilDiv d (scaleOf c .step)) e ∙ ceil-none (scaleOf c .step))
+  level-best = (
+    ceil-none-only (distance c v) (scaleOf c .step) h,
+    λ e. ap (λ (d : ℕ). ceilDiv d (scaleOf c .step)) e
+        ∙ ceil-none (scaleOf c .step),
+  )

@@ -29,7 +29,8 @@ greatest v h = gap-none v (pos 2147483647) (go v h)
     go (pos n) h = le-leb n 2147483647 (omega arith)
     go (negsuc n) h = refl
 
-pub distance-outside : (c : Constructor) (v : ℤ) → mag v < 2147483648 → gap (targetOf c .low) v + gap v (targetOf c .up) ≡ distance c v
+pub distance-outside : (c : Constructor) (v : ℤ) → mag v < 2147483648
+    → gap (targetOf c .low) v + gap v (targetOf c .up) ≡ distance c v
 unfolding distance
 distance-outside (Lowest lo hi step) v h = omega (arith, least v h)
 distance-outside (Highest lo hi step) v h = omega (arith, greatest v h)

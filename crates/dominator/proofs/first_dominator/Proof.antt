@@ -31,7 +31,8 @@ returns : tie.Need-returns Inv-loop μ-loop
 returns c =
     let l = c .before .before .before .before .loop in
     let a = c .before .before .before .before .before .before .before .args in
-    sym (first-here (bestBeats (a .table .now) (a .rows .now) (a .row)) (a .rows .now) (l .i) (a .none) (omega arith) (sym (c .before .is-best-dominator .ensures) ∙ c .if1 .taken)) ∙ l .inv
+    sym (first-here (bestBeats (a .table .now) (a .rows .now) (a .row)) (a .rows .now) (l .i) (a .none) (omega arith)
+    (sym (c .before .is-best-dominator .ensures) ∙ c .if1 .taken)) ∙ l .inv
 
 add-i : tie.Need-add-i Inv-loop μ-loop
 add-i c = search needs
@@ -43,7 +44,8 @@ loop-again : tie.Need-loop-again Inv-loop μ-loop
 loop-again c =
     let l = c .before .before .before .before .loop in
     let a = c .before .before .before .before .before .before .before .args in
-    first-on (bestBeats (a .table .now) (a .rows .now) (a .row)) (a .rows .now) (l .i) (a .none) (omega arith) (sym (c .before .is-best-dominator .ensures) ∙ c .if1 .left) ∙ l .inv
+    first-on (bestBeats (a .table .now) (a .rows .now) (a .row)) (a .rows .now) (l .i) (a .none) (omega arith)
+    (sym (c .before .is-best-dominator .ensures) ∙ c .if1 .left) ∙ l .inv
 
 returns-2 : tie.Need-returns-2 Inv-loop μ-loop
 returns-2 c =

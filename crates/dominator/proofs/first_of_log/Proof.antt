@@ -5,7 +5,7 @@ use native.Mathlib.Omega.{arith}
 use lib.ListN.{length, take, drop, replicate, length-replicate}
 use lib.Seq.{length-take-le}
 use borrow.Author.Needs.{needs}
-use Rattle.runs.specs.Log.{logOf}
+use Rattle.log.specs.Log.{logOf}
 use Rattle.pareto.specs.Best.{competing}
 use Rattle.level_table.specs.Table.{tableOf}
 use Rattle.pareto.specs.Laws.Competing.{competing-few, competing-front}

@@ -33,7 +33,8 @@ returns : tie.Need-returns Inv-loop μ-loop
 returns c =
     let l = c .before .before .before .before .loop in
     let a = c .before .before .before .before .before .before .before .args in
-    sym (any-here (λ q. beats (a .table .now) q (a .s)) (a .rows .now) (l .i) (omega arith) (eq-eqb _ 1 (sym (c .before .compare .ensures) ∙ c .if1 .taken))) ∙ l .inv
+    sym (any-here (λ q. beats (a .table .now) q (a .s)) (a .rows .now) (l .i) (omega arith) (eq-eqb _ 1 (sym (c .before .compare .ensures) ∙ c .if1 .taken)))
+    ∙ l .inv
 
 add-i : tie.Need-add-i Inv-loop μ-loop
 add-i c = search needs

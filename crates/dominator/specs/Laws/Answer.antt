@@ -10,43 +10,43 @@ use Rattle.laws.specs.Laws.AnyOf.{passing-any}
 use Rattle.laws.specs.Laws.Bools.{both, false-true}
 use Rattle.laws.specs.Laws.Checks.{gives-yes, gives-no, then-first, then-next, then-none}
 use Rattle.laws.specs.Laws.First.{first-is}
-use Rattle.runs.specs.Log.{Log, rowCount, logNumber}
-use Rattle.runs.specs.Laws.Log as runs
-use Rattle.preference.specs.Valid.{listNumber}
+use Rattle.log.specs.Log.{Log, rowCount, logRefusal}
+use Rattle.log.specs.Laws.Log as runs
+use Rattle.preference.specs.Valid.{listRefusal}
 use Rattle.preference.specs.declared.PreferenceList.{PreferenceList}
 use Rattle.pareto.specs.Best.{competes, competing, rowDominates, isBest}
-use Rattle.pareto.specs.Checked.{checkedNumber}
+use Rattle.pareto.specs.Checked.{checkedRefusal}
 use Rattle.pareto.specs.Laws.Best.{dominated-by-best}
 use Rattle.pareto.specs.Laws.Competing.{every-competes}
 use Rattle.dominator.specs.First.{bestDominates, firstDominator, RowAsked}
-use Rattle.dominator.specs.Engine.{dominatorNumber, Answered}
+use Rattle.dominator.specs.Engine.{dominatorRefusal, Answered}
 use Rattle.dominator.specs.declared.DominatorAnswer.the-variants.{Row, Refused}
 
-module _ (l : PreferenceList) (log : Log) (row k : ℕ) (e : k ≡ checkedNumber l log 0) where
+module _ (l : PreferenceList) (log : Log) (row k : ℕ) (e : k ≡ checkedRefusal l log 0) where
   pub refused : (k ≡ 0 → ⊥) → Answered l log row (Refused k)
-  unfolding dominatorNumber Answered
-  refused h = record { number = e ∙ sym (then-first (checkedNumber l log 0) _ (λ z. h (e ∙ z))); some = h }
+  unfolding dominatorRefusal Answered
+  refused h = record { refusal = e ∙ sym (then-first (checkedRefusal l log 0) _ (λ z. h (e ∙ z))); some = h }
 
   pub no-row : k ≡ 0 → rowCount (log .values) ≤ row → Answered l log row (Refused 12)
-  unfolding dominatorNumber Answered _gives_
+  unfolding dominatorRefusal Answered _gives_
   no-row z h = record {
-    number =
-        sym (then-next (checkedNumber l log 0) _ (sym e ∙ z)
+    refusal =
+        sym (then-next (checkedRefusal l log 0) _ (sym e ∙ z)
         ∙ rw (le-leb (rowCount (log .values)) row h) (then-first 12 (isBest l log row gives 13) (λ y. omega arith)));
     some = λ y. omega arith;
   }
 
   pub accepted : k ≡ 0 → row < rowCount (log .values) → RowAsked l log row
-  unfolding checkedNumber _then_
+  unfolding checkedRefusal _then_
   accepted z h =
-      let a = then-none (listNumber l) _ (sym e ∙ z) in
-      let b = then-none (logNumber (log .values)) _ (a .1) in
+      let a = then-none (listRefusal l) _ (sym e ∙ z) in
+      let b = then-none (logRefusal (log .values)) _ (a .1) in
       record { list = a .0; values = b .1; few = runs.accepted (log .values) (b .0) .few; is-row = h }
 
-  number-is : k ≡ 0 → row < rowCount (log .values) → dominatorNumber l log row ≡ isBest l log row gives 13
-  unfolding dominatorNumber
-  number-is z h =
-      then-next (checkedNumber l log 0) _ (sym e ∙ z)
+  refusal-is : k ≡ 0 → row < rowCount (log .values) → dominatorRefusal l log row ≡ isBest l log row gives 13
+  unfolding dominatorRefusal
+  refusal-is z h =
+      then-next (checkedRefusal l log 0) _ (sym e ∙ z)
       ∙ then-next (leb (rowCount (log .values)) row gives 12) _
       (gives-no (leb (rowCount (log .values)) row) 12 (lt-leb (rowCount (log .values)) row h))
 
@@ -55,7 +55,7 @@ module _ (l : PreferenceList) (log : Log) (row k : ℕ) (e : k ≡ checkedNumber
       → rowCount (log .values) ≤ s → Answered l log row (Refused 13)
   unfolding Answered firstDominator
   shortlisted z h s f n = record {
-    number = sym (number-is z h ∙ gives-yes (isBest l log row) 13 (itself (isBest l log row) refl));
+    refusal = sym (refusal-is z h ∙ gives-yes (isBest l log row) 13 (itself (isBest l log row) refl));
     some = λ y. omega arith;
   }
     where
@@ -88,7 +88,7 @@ module _ (l : PreferenceList) (log : Log) (row k : ℕ) (e : k ≡ checkedNumber
       both (isBest l log s) (rowDominates l log s row)
       (rw f (first-is (bestDominates l log row) (rowCount (log .values)) .there (rw f at n))) in
       record {
-        accepted = number-is z h ∙ gives-no (isBest l log row) 13 (row-beaten s n (d .0) (d .1));
+        accepted = refusal-is z h ∙ gives-no (isBest l log row) 13 (row-beaten s n (d .0) (d .1));
         is-row = n;
         shortlisted = d .0;
         betters = d .1;

@@ -15,7 +15,7 @@ use Rattle.laws.specs.Lists.{joined, passing, anyOf}
 use Rattle.laws.specs.Laws.AnyOf.{passing-found, passing-any}
 use Rattle.laws.specs.Laws.Bools.{both-ways}
 use Rattle.laws.specs.Laws.First.{first-is, first-cong}
-use Rattle.runs.specs.Log.{Log, rowCount}
+use Rattle.log.specs.Log.{Log, rowCount}
 use Rattle.preference.specs.declared.PreferenceList.{PreferenceList}
 use Rattle.pareto.specs.Best.{competes, competing, rowDominates, isBest}
 use Rattle.level_table.specs.Table.{tableOf}

@@ -6,13 +6,13 @@ use native.Mathlib.Omega.{arith}
 use borrow.Author.Needs.{needs}
 use lib.ListN.{length, take, drop, replicate, length-append, length-replicate}
 use lib.Seq.{length-take-le, take-at}
-use Rattle.runs.specs.Laws.Log.{accepted}
+use Rattle.log.specs.Laws.Log.{accepted}
 use Rattle.preference.specs.declared.PreferenceList.{PreferenceList}
-use Rattle.nodes.specs.Lattice.{nodeCount}
-use Rattle.walk.specs.Blocks.{Small}
-use Rattle.settle.specs.Settled.{Settles}
+use Rattle.lattice_nodes.specs.Lattice.{nodeCount}
+use Rattle.lattice_walk.specs.Blocks.{Small}
+use Rattle.lattice_marks.specs.Settled.{Settles}
 use Rattle.lattice.specs.Walked.{latticeTops}
-use Rattle.lattice.specs.Numbers.{Weighed}
+use Rattle.lattice.specs.Ids.{Weighed}
 use Rattle.lattice.proofs.walk_rows.Statement.{statement}
 use Rattle.lattice.proofs.walk_rows.Tie as tie
 
@@ -29,17 +29,17 @@ front : (s : tie.Start) → length (take (rows s) zeros) ≡ rows s
 front s = length-take-le (rows s) zeros (omega (arith, few s, length-replicate {A = ℕ} 1024 0))
 
 -- the node numbers
-abbrev numbers : tie.After-fill-numbers → List ℕ
-numbers f = f .fill-numbers .last .1 .1 .1 .0
+abbrev ids : tie.After-fill-ids → List ℕ
+ids f = f .fill-ids .last .1 .1 .1 .0
 
-abbrev start : tie.After-fill-numbers → tie.Start
+abbrev start : tie.After-fill-ids → tie.Start
 start f = f .before .before .before .before .before
 
-numbers-long : (f : tie.After-fill-numbers) → length (numbers f) ≡ rows (start f)
-numbers-long f = f .fill-numbers .kept .1 .1 .1 .0 ∙ front (start f)
+ids-long : (f : tie.After-fill-ids) → length (ids f) ≡ rows (start f)
+ids-long f = f .fill-ids .kept .1 .1 .1 .0 ∙ front (start f)
 
-numbers-front : (f : tie.After-fill-numbers) → take (rows (start f)) (numbers f ++ drop (rows (start f)) zeros) ≡ numbers f
-numbers-front f = take-at (numbers f) (drop (rows (start f)) zeros) (rows (start f)) (numbers-long f)
+ids-front : (f : tie.After-fill-ids) → take (rows (start f)) (ids f ++ drop (rows (start f)) zeros) ≡ ids f
+ids-front f = take-at (ids f) (drop (rows (start f)) zeros) (rows (start f)) (ids-long f)
 
 -- what the engine promises, told of what its arguments are
 told : (w w′ x x′ : List ℕ) (n n′ budget : ℕ) (marks : List ℕ) (ok : Bool) (made : ℕ) (marks′ nodes′ : List ℕ) → w ≡ w′ → x ≡ x′ → n ≡ n′
@@ -54,28 +54,28 @@ small l weights n w e =
       nodes = rw e (w .few);
     }
 
-array-borrow-prefix-numbers : tie.Need-array-borrow-prefix-numbers
-array-borrow-prefix-numbers c = few (c .before .before .before)
+array-borrow-prefix-ids : tie.Need-array-borrow-prefix-ids
+array-borrow-prefix-ids c = few (c .before .before .before)
 
-slice-aggregate-fill-numbers : tie.Need-slice-aggregate-fill-numbers
-slice-aggregate-fill-numbers c = sym (front (c .before .before .before .before))
+slice-aggregate-fill-ids : tie.Need-slice-aggregate-fill-ids
+slice-aggregate-fill-ids c = sym (front (c .before .before .before .before))
 
-fill-numbers-requires : tie.Need-fill-numbers-requires
-fill-numbers-requires c κs =
+fill-ids-requires : tie.Need-fill-ids-requires
+fill-ids-requires c κs =
     let s = c .before .before .before .before in
     (s .pre .0, (s .pre .1 .0, (s .pre .1 .1 .0, front s ∙ s .pre .1 .1 .1 .1)))
 
-array-share-prefix-numbers : tie.Need-array-share-prefix-numbers
-array-share-prefix-numbers c = rw (length-append (numbers (c .before))) (omega (arith, numbers-long (c .before)))
+array-share-prefix-ids : tie.Need-array-share-prefix-ids
+array-share-prefix-ids c = rw (length-append (ids (c .before))) (omega (arith, ids-long (c .before)))
 
 slice-aggregate-settle : tie.Need-slice-aggregate-settle
-slice-aggregate-settle c = sym (ap length (numbers-front (c .before .before)) ∙ numbers-long (c .before .before))
+slice-aggregate-settle c = sym (ap length (ids-front (c .before .before)) ∙ ids-long (c .before .before))
 
 settle-requires : tie.Need-settle-requires
 settle-requires c κs =
     let f = c .before .before .before .before in
     let s = start f in
-    (small _ _ _ (s .pre .0) (s .pre .1 .1 .1 .0), rw (numbers-front f) (sym (numbers-long f)))
+    (small _ _ _ (s .pre .0) (s .pre .1 .1 .1 .0), rw (ids-front f) (sym (ids-long f)))
 
 same-length : tie.Need-same-length
 same-length c = search needs
@@ -88,16 +88,16 @@ returns c =
     let k = c .before .before .before .before in
     let f = k .before .before .before .before .before in
     let s = start f in
-    told _ _ _ _ _ _ _ _ _ _ _ _ (s .pre .0 .weights-are) (numbers-front f ∙ f .fill-numbers .ensures) (s .pre .1 .1 .1 .0) (k .settle .ensures)
+    told _ _ _ _ _ _ _ _ _ _ _ _ (s .pre .0 .weights-are) (ids-front f ∙ f .fill-ids .ensures) (s .pre .1 .1 .1 .0) (k .settle .ensures)
 
 pub walk-rows-spec : {M : Type 1} → statement M
 walk-rows-spec =
     tie.close
     (tie.spec
-    array-borrow-prefix-numbers
-    slice-aggregate-fill-numbers
-    fill-numbers-requires
-    array-share-prefix-numbers
+    array-borrow-prefix-ids
+    slice-aggregate-fill-ids
+    fill-ids-requires
+    array-share-prefix-ids
     slice-aggregate-settle
     settle-requires
     same-length

@@ -12,40 +12,40 @@ use Rattle.laws.specs.Checks.{_gives_, _then_}
 use Rattle.laws.specs.Outcome.{outcome}
 use Rattle.laws.specs.Lists.{joined}
 use Rattle.laws.specs.Laws.Checks.{then-none, gives-none, gives-yes, gives-no}
-use Rattle.runs.specs.Log.{Log, rowCount, logNumber}
-use Rattle.preference.specs.Valid.{listNumber}
+use Rattle.log.specs.Log.{Log, rowCount, logRefusal}
+use Rattle.preference.specs.Valid.{listRefusal}
 use Rattle.preference.specs.Laws.Parts.{Within}
 use Rattle.preference.specs.declared.PreferenceList.{PreferenceList}
 use Rattle.pareto.specs.Best.{marksOf, marksAfter}
 use Rattle.pareto.specs.Call.{Call, marksLeft, Leaves}
 use Rattle.pareto.specs.Laws.Call.{leaves-refused}
-use Rattle.pareto.specs.Checked.{rowsNumber, marksNumber, checkedNumber}
-use Rattle.nodes.specs.Lattice.{nodeCount, crossedAt, crossings, nodeBytes}
-use Rattle.nodes.specs.Steps.{weightsOf}
-use Rattle.nodes.specs.Laws.Some.{All}
-use Rattle.nodes.specs.Laws.Walk.{trail-crossed, bytes-final}
+use Rattle.pareto.specs.Checked.{rowsRefusal, marksRefusal, checkedRefusal}
+use Rattle.lattice_nodes.specs.Lattice.{nodeCount, crossedAt, crossings, nodeBytes}
+use Rattle.lattice_nodes.specs.Steps.{weightsOf}
+use Rattle.lattice_nodes.specs.Laws.Some.{All}
+use Rattle.lattice_nodes.specs.Laws.Walk.{trail-crossed, bytes-final}
 use Rattle.lattice.specs.Walked.{latticeTops, latticeRows}
-use Rattle.lattice.specs.Engine.{latticeNumber, latticeCall, nodesLeft, outcomeOf}
-use Rattle.settle.specs.Settled.{crossed, Settles}
-use Rattle.lattice.specs.Numbers.{rowNodes}
+use Rattle.lattice.specs.Engine.{latticeRefusal, latticeCall, nodesLeft, outcomeOf}
+use Rattle.lattice_marks.specs.Settled.{crossed, Settles}
+use Rattle.lattice.specs.Ids.{rowNodes}
 use Rattle.lattice.specs.Laws.Rows.{rows-hold, rows-within, rows-marked}
 use Rattle.lattice.specs.declared.LatticeAnswer.{LatticeAnswer}
 use Rattle.lattice.specs.declared.LatticeAnswer.the-variants.{Crossed, Refused}
 
 -- what the checks up to 8 say
 pub record Passed (l : PreferenceList) (log : Log) (marks : ℕ) : Type 0 where
-  pub list-accepted : listNumber l ≡ 0
-  pub log-accepted : logNumber (log .values) ≡ 0
+  pub list-accepted : listRefusal l ≡ 0
+  pub log-accepted : logRefusal (log .values) ≡ 0
   pub marks-fit : rowCount (log .values) ≤ marks
-  pub rows-accepted : rowsNumber l (log .values) ≡ 0
+  pub rows-accepted : rowsRefusal l (log .values) ≡ 0
 
-pub passed : (l : PreferenceList) (log : Log) (marks : ℕ) → checkedNumber l log (marksNumber (log .values) marks) ≡ 0
+pub passed : (l : PreferenceList) (log : Log) (marks : ℕ) → checkedRefusal l log (marksRefusal (log .values) marks) ≡ 0
     → Passed l log marks
-unfolding checkedNumber
+unfolding checkedRefusal
 passed l log marks z =
-    let a = then-none (listNumber l) _ z in
-    let b = then-none (logNumber (log .values)) _ (a .1) in
-    let d = then-none (marksNumber (log .values) marks) _ (b .1) in
+    let a = then-none (listRefusal l) _ z in
+    let b = then-none (logRefusal (log .values)) _ (a .1) in
+    let d = then-none (marksRefusal (log .values) marks) _ (b .1) in
     record {
       list-accepted = a .0;
       log-accepted = b .0;
@@ -62,29 +62,29 @@ module _ (l : PreferenceList) (log : Log) (marks nodes : List ℕ) (budget : ℕ
   Ends answer marks′ nodes′ = Leaves callOf marks (outcomeOf answer) marks′ × (nodes′ ≡ nodesLeft callOf nodes)
 
   -- a call that is refused by a number other than 11
-  pub refused-by : (k : ℕ) → latticeNumber l log (length marks) (length nodes) budget ≡ k → (k ≡ 0 → ⊥) → (k ≡ 11 → ⊥)
+  pub refused-by : (k : ℕ) → latticeRefusal l log (length marks) (length nodes) budget ≡ k → (k ≡ 0 → ⊥) → (k ≡ 11 → ⊥)
       → Ends (Refused k) marks nodes
   unfolding nodesLeft
   refused-by k e z h = (leaves-refused callOf marks k e z, rw (e, ne-eqb k 0 z, ne-eqb k 11 h))
 
-  module _ (z : checkedNumber l log (marksNumber (log .values) (length marks)) ≡ 0) where
+  module _ (z : checkedRefusal l log (marksRefusal (log .values) (length marks)) ≡ 0) where
     pub too-many : 32768 < nodeCount (latticeTops l) → Ends (Refused 9) marks nodes
     too-many h =
-        refused-by 9 (unfold latticeNumber _gives_ _then_ in rw (z, lt-ltb 32768 (nodeCount (latticeTops l)) h))
+        refused-by 9 (unfold latticeRefusal _gives_ _then_ in rw (z, lt-ltb 32768 (nodeCount (latticeTops l)) h))
         (λ e. absurd (omega arith)) (λ e. absurd (omega arith))
 
     module _ (few : nodeCount (latticeTops l) ≤ 32768) where
       pub too-short : length nodes < nodeCount (latticeTops l) → Ends (Refused 10) marks nodes
       too-short h =
           refused-by 10
-          (unfold latticeNumber _gives_ _then_ in
+          (unfold latticeRefusal _gives_ _then_ in
           rw (z, le-ltb 32768 (nodeCount (latticeTops l)) few, lt-ltb (length nodes) (nodeCount (latticeTops l)) h))
           (λ e. absurd (omega arith)) (λ e. absurd (omega arith))
 
       module _ (fit : nodeCount (latticeTops l) ≤ length nodes) where
-        last : latticeNumber l log (length marks) (length nodes) budget
+        last : latticeRefusal l log (length marks) (length nodes) budget
             ≡ (ltb budget (crossings (latticeTops l) (latticeRows l log)) gives 11)
-        unfolding latticeNumber _gives_ _then_
+        unfolding latticeRefusal _gives_ _then_
         last =
             rw (z, le-ltb 32768 (nodeCount (latticeTops l)) few, le-ltb (length nodes) (nodeCount (latticeTops l)) fit)
 
@@ -124,13 +124,13 @@ module _ (l : PreferenceList) (log : Log) (marks nodes : List ℕ) (budget : ℕ
             unfolding marksLeft nodesLeft
             spent e =
                 let over = leb-false (crossings tops rows) budget (sym enough ∙ e) in
-                let number =
+                let refusal =
                 last ∙ gives-yes (ltb budget (crossings tops rows)) 11 (lt-ltb budget (crossings tops rows) over) in (
                   record {
-                    answer-is = rw number (unfold outcome in refl);
-                    marks-are = rw (number, s .marks-are, e) (take-append-drop (rowCount (log .values)) marks);
+                    answer-is = rw refusal (unfold outcome in refl);
+                    marks-are = rw (refusal, s .marks-are, e) (take-append-drop (rowCount (log .values)) marks);
                   },
-                  rw (number, s .nodes-are, e),
+                  rw (refusal, s .nodes-are, e),
                 )
 
             -- the bytes of the nodes, and the marks by them
@@ -151,11 +151,11 @@ module _ (l : PreferenceList) (log : Log) (marks nodes : List ℕ) (budget : ℕ
             unfolding marksLeft nodesLeft marksAfter
             through e =
                 let fits = leb-true (crossings tops rows) budget (sym enough ∙ e) in
-                let number =
+                let refusal =
                 last ∙ gives-no (ltb budget (crossings tops rows)) 11 (le-ltb budget (crossings tops rows) fits) in (
                   record {
-                    answer-is = rw (number, s .counted e, count-is) (unfold outcome in refl);
-                    marks-are = rw (number, marks-are e);
+                    answer-is = rw (refusal, s .counted e, count-is) (unfold outcome in refl);
+                    marks-are = rw (refusal, marks-are e);
                   },
-                  rw (number, bytes-are e),
+                  rw (refusal, bytes-are e),
                 )

@@ -3,7 +3,7 @@
 use mathlib.Core.Path.{_≡_, refl}
 use Prim.Native.Nat.{ℕ, _≤_}
 use lib.ListN.{length}
-use Rattle.runs.specs.Log.{Log}
+use Rattle.log.specs.Log.{Log}
 use Rattle.preference.specs.Parts.{maxLevels}
 use Rattle.preference.specs.Laws.Parts.{parts-few}
 use Rattle.preference.specs.declared.PreferenceList.{PreferenceList}

@@ -37,9 +37,11 @@ module _ (p c : ℕ → Bool) where
   passing-found zero h = unfold anyOf in false-true h
   passing-found (suc n) h =
       ⊎-elim
-      (λ y. let f = passing-found n y in record { at = f .at; below = omega (arith, f .below); passes = f .passes; holds = f .holds })
+      (λ y. let f = passing-found n y in
+      record { at = f .at; below = omega (arith, f .below); passes = f .passes; holds = f .holds })
       (λ y. let g = last-found n (c n) refl y in record { at = n; below = omega arith; passes = g .0; holds = g .1 })
-      (either (anyOf p (passing c n)) (anyOf p (cond (c n) (n ∷ []) [])) (sym (any-append p (passing c n) (cond (c n) (n ∷ []) [])) ∙ h))
+      (either (anyOf p (passing c n)) (anyOf p (cond (c n) (n ∷ []) []))
+      (sym (any-append p (passing c n) (cond (c n) (n ∷ []) [])) ∙ h))
 
   last-any : (n : ℕ) → c n ≡ true → p n ≡ true → anyOf p (cond (c n) (n ∷ []) []) ≡ true
   unfolding anyOf

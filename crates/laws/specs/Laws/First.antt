@@ -8,7 +8,7 @@ use mathlib.Core.Bool.{Bool, true, false, not, _||_, cond}
 use borrow.Author.Tests.{lt-ltb, le-ltb, ltb-true, ltb-false, eqb-true, ne-eqb, eq-eqb, not-false}
 use lib.Dec.{ltb, eqb}
 use borrow.Author.Count.{below-more}
-use Rattle.laws.specs.First.{firstAt, anyBelow, firstNumber, isNumber}
+use Rattle.laws.specs.First.{firstAt, anyBelow, firstRefusal, isRefusal}
 use Rattle.laws.specs.Laws.Bools.{false-true}
 
 -- nothing below k, and not at k: nothing below k + 1
@@ -35,18 +35,18 @@ pub any-none : (p : ℕ → Bool) (n : ℕ) → firstAt p n ≡ n → anyBelow p
 unfolding anyBelow
 any-none p n e = rw e (le-ltb n n (omega arith))
 
-pub number-on : (f : ℕ → ℕ) (k : ℕ) → firstAt (isNumber f) k ≡ k → f k ≡ 0 → firstAt (isNumber f) (k + 1) ≡ k + 1
-number-on f k e z = search-on (isNumber f) k e (rw (eq-eqb (f k) 0 z))
+pub refusal-on : (f : ℕ → ℕ) (k : ℕ) → firstAt (isRefusal f) k ≡ k → f k ≡ 0 → firstAt (isRefusal f) (k + 1) ≡ k + 1
+refusal-on f k e z = search-on (isRefusal f) k e (rw (eq-eqb (f k) 0 z))
 
-pub number-hit : (f : ℕ → ℕ) (k n : ℕ) → firstAt (isNumber f) k ≡ k → (f k ≡ 0 → ⊥) → k < n → firstNumber f n ≡ f k
-unfolding firstNumber
-number-hit f k n e y l =
-    let t : isNumber f k ≡ true = rw (ne-eqb (f k) 0 y) in
-    rw (any-hit (isNumber f) k n e t l, search-hit (isNumber f) k n e t l)
+pub refusal-hit : (f : ℕ → ℕ) (k n : ℕ) → firstAt (isRefusal f) k ≡ k → (f k ≡ 0 → ⊥) → k < n → firstRefusal f n ≡ f k
+unfolding firstRefusal
+refusal-hit f k n e y l =
+    let t : isRefusal f k ≡ true = rw (ne-eqb (f k) 0 y) in
+    rw (any-hit (isRefusal f) k n e t l, search-hit (isRefusal f) k n e t l)
 
-pub number-none : (f : ℕ → ℕ) (n : ℕ) → firstAt (isNumber f) n ≡ n → firstNumber f n ≡ 0
-unfolding firstNumber
-number-none f n e = rw (any-none (isNumber f) n e)
+pub refusal-none : (f : ℕ → ℕ) (n : ℕ) → firstAt (isRefusal f) n ≡ n → firstRefusal f n ≡ 0
+unfolding firstRefusal
+refusal-none f n e = rw (any-none (isRefusal f) n e)
 
 -- what a search's answer k says: nothing before it, and it holds there
 pub record First (p : ℕ → Bool) (n k : ℕ) : Type 0 where
@@ -54,9 +54,13 @@ pub record First (p : ℕ → Bool) (n k : ℕ) : Type 0 where
   pub before : (i : ℕ) → i < k → p i ≡ false
   pub there : k < n → p k ≡ true
 
-first-more : (p : ℕ → Bool) (n k : ℕ) → First p n k → (t : Bool) → ltb k n ≡ t → (u : Bool) → p n ≡ u → First p (suc n) (cond t k (cond u n (suc n)))
-first-more p n k h true e u f = let q : k < n = ltb-true k n e in record { within = omega arith; before = h .before; there = λ l. h .there q }
-first-more p n k h false e true f = let q : n ≤ k = ltb-false k n e in record { within = omega arith; before = λ i l. h .before i (omega arith); there = λ l. f }
+first-more : (p : ℕ → Bool) (n k : ℕ) → First p n k → (t : Bool) → ltb k n ≡ t → (u : Bool) → p n ≡ u
+    → First p (suc n) (cond t k (cond u n (suc n)))
+first-more p n k h true e u f =
+    let q : k < n = ltb-true k n e in record { within = omega arith; before = h .before; there = λ l. h .there q }
+first-more p n k h false e true f =
+    let q : n ≤ k =
+    ltb-false k n e in record { within = omega arith; before = λ i l. h .before i (omega arith); there = λ l. f }
 first-more p n k h false e false f =
     let q : n ≤ k = ltb-false k n e in
     record {
@@ -67,10 +71,12 @@ first-more p n k h false e false f =
 
 pub first-is : (p : ℕ → Bool) (n : ℕ) → First p n (firstAt p n)
 unfolding firstAt
-first-is p zero = record { within = omega arith; before = λ i l. absurd (not-suc-le-zero l); there = λ l. absurd (not-suc-le-zero l) }
+first-is p zero =
+    record { within = omega arith; before = λ i l. absurd (not-suc-le-zero l); there = λ l. absurd (not-suc-le-zero l) }
 first-is p (suc n) = first-more p n (firstAt p n) (first-is p n) (ltb (firstAt p n) n) refl (p n) refl
 
-one-more : (p : ℕ → Bool) (k f : ℕ) → f ≤ k → (t : Bool) → ltb f k ≡ t → (u : Bool) → ltb (cond t f (cond u k (suc k))) (suc k) ≡ t || u
+one-more : (p : ℕ → Bool) (k f : ℕ) → f ≤ k → (t : Bool) → ltb f k ≡ t → (u : Bool)
+    → ltb (cond t f (cond u k (suc k))) (suc k) ≡ t || u
 one-more p k f h true e u = lt-ltb f (suc k) (let q = ltb-true f k e in omega arith)
 one-more p k f h false e true = lt-ltb k (suc k) (omega arith)
 one-more p k f h false e false = le-ltb (suc k) (suc k) (omega arith)
@@ -96,19 +102,19 @@ any-at p n k l h = found-at (ltb (firstAt p n) n) refl
         let f = first-is p n .before k (omega arith) in
         false-true (sym f ∙ h)
 
-none-found : (f : ℕ → ℕ) (n k : ℕ) → First (isNumber f) n k → (t : Bool) → ltb k n ≡ t → cond t (f k) 0 ≡ 0 → n ≤ k
+none-found : (f : ℕ → ℕ) (n k : ℕ) → First (isRefusal f) n k → (t : Bool) → ltb k n ≡ t → cond t (f k) 0 ≡ 0 → n ≤ k
 none-found f n k h false e z = ltb-false k n e
 none-found f n k h true e z =
     let q = h .there (ltb-true k n e) in
-    let r : isNumber f k ≡ false = rw (eq-eqb (f k) 0 z) in
+    let r : isRefusal f k ≡ false = rw (eq-eqb (f k) 0 z) in
     false-true (sym r ∙ q)
 
 -- no number comes: each check gives none
-pub number-zero : (f : ℕ → ℕ) (n : ℕ) → firstNumber f n ≡ 0 → (i : ℕ) → i < n → f i ≡ 0
-unfolding firstNumber anyBelow
-number-zero f n z i l =
-    let h = first-is (isNumber f) n in
-    let m = none-found f n (firstAt (isNumber f) n) h (ltb (firstAt (isNumber f) n) n) refl z in
+pub refusal-zero : (f : ℕ → ℕ) (n : ℕ) → firstRefusal f n ≡ 0 → (i : ℕ) → i < n → f i ≡ 0
+unfolding firstRefusal anyBelow
+refusal-zero f n z i l =
+    let h = first-is (isRefusal f) n in
+    let m = none-found f n (firstAt (isRefusal f) n) h (ltb (firstAt (isRefusal f) n) n) refl z in
     eqb-true (f i) 0 (not-false (eqb (f i) 0) (h .before i (omega arith)))
 
 -- ---- a search looks only below its end
@@ -122,12 +128,13 @@ pub any-cong : (p q : ℕ → Bool) (n : ℕ) → ((i : ℕ) → i < n → p i �
 unfolding anyBelow
 any-cong p q n h = ap (λ (k : ℕ). ltb k n) (first-cong p q n h)
 
-found-cong : (f g : ℕ → ℕ) (n k : ℕ) → ((i : ℕ) → i < n → f i ≡ g i) → (t : Bool) → ltb k n ≡ t → _≡_ {A = ℕ} (cond t (f k) 0) (cond t (g k) 0)
+found-cong : (f g : ℕ → ℕ) (n k : ℕ) → ((i : ℕ) → i < n → f i ≡ g i) → (t : Bool) → ltb k n ≡ t
+    → _≡_ {A = ℕ} (cond t (f k) 0) (cond t (g k) 0)
 found-cong f g n k h true e = h k (ltb-true k n e)
 found-cong f g n k h false e = refl
 
-pub number-cong : (f g : ℕ → ℕ) (n : ℕ) → ((i : ℕ) → i < n → f i ≡ g i) → firstNumber f n ≡ firstNumber g n
-unfolding firstNumber anyBelow
-number-cong f g n h =
-    let e = first-cong (isNumber f) (isNumber g) n (λ i l. ap (λ (k : ℕ). not (eqb k 0)) (h i l)) in
-    found-cong f g n (firstAt (isNumber f) n) h (ltb (firstAt (isNumber f) n) n) refl ∙ rw e
+pub refusal-cong : (f g : ℕ → ℕ) (n : ℕ) → ((i : ℕ) → i < n → f i ≡ g i) → firstRefusal f n ≡ firstRefusal g n
+unfolding firstRefusal anyBelow
+refusal-cong f g n h =
+    let e = first-cong (isRefusal f) (isRefusal g) n (λ i l. ap (λ (k : ℕ). not (eqb k 0)) (h i l)) in
+    found-cong f g n (firstAt (isRefusal f) n) h (ltb (firstAt (isRefusal f) n) n) refl ∙ rw e

@@ -21,7 +21,8 @@ joined-cong f g zero h = refl
 joined-cong f g (suc n) h = rw (joined-cong f g n (λ i l. h i (omega arith)), h n (omega arith))
 
 -- only the lengths of the lists matter to their length
-pub joined-length : (f g : ℕ → List ℕ) (n : ℕ) → ((i : ℕ) → length (f i) ≡ length (g i)) → length (joined f n) ≡ length (joined g n)
+pub joined-length : (f g : ℕ → List ℕ) (n : ℕ) → ((i : ℕ) → length (f i) ≡ length (g i))
+    → length (joined f n) ≡ length (joined g n)
 unfolding joined
 joined-length f g zero h = refl
 joined-length f g (suc n) h =
@@ -33,25 +34,31 @@ joined-grows : (f : ℕ → List ℕ) (i n : ℕ) → i ≤ n → length (joined
 unfolding joined
 joined-grows f i zero h = let e : i ≡ 0 = omega arith in rw e (le-refl _)
 joined-grows f i (suc n) h =
-    ⊎-elim (λ e. rw e (le-refl _)) (λ l. omega (arith, joined-grows f i n (le-of-suc-le-suc l), length-append (joined f n) (f n))) (eq-or-lt-of-le h)
+    ⊎-elim (λ e. rw e (le-refl _))
+    (λ l. omega (arith, joined-grows f i n (le-of-suc-le-suc l), length-append (joined f n) (f n)))
+    (eq-or-lt-of-le h)
 
 -- the list before whose elements there are at most k, and with whose elements there are more
-joined-at : (f : ℕ → List ℕ) (i k : ℕ) → length (joined f i) ≤ k → k < length (joined f (suc i)) → (n : ℕ) → i < n → getD (joined f n) k 0 ≡ getD (f i) (k - length (joined f i)) 0
+joined-at : (f : ℕ → List ℕ) (i k : ℕ) → length (joined f i) ≤ k → k < length (joined f (suc i)) → (n : ℕ) → i < n
+    → getD (joined f n) k 0 ≡ getD (f i) (k - length (joined f i)) 0
 unfolding joined
 joined-at f i k a b zero h = absurd (not-suc-le-zero h)
 joined-at f i k a b (suc n) h =
     ⊎-elim
     (λ e.
     let q : k ≡ length (joined f i) + (k - length (joined f i)) = omega arith in
-    rw (← e) (ap (λ (j : ℕ). getD (joined f i ++ f i) j 0) q ∙ getD-append-add (joined f i) (f i) (k - length (joined f i)) 0))
-    (λ l. List·getD-append (joined f n) (f n) 0 k (omega (arith, b, joined-grows f (suc i) n l)) ∙ joined-at f i k a b n l)
+    rw (← e) (ap (λ (j : ℕ). getD (joined f i ++ f i) j 0) q
+    ∙ getD-append-add (joined f i) (f i) (k - length (joined f i)) 0))
+    (λ l. List·getD-append (joined f n) (f n) 0 k (omega (arith, b, joined-grows f (suc i) n l))
+    ∙ joined-at f i k a b n l)
     (eq-or-lt-of-le (le-of-suc-le-suc h))
 
 module _ (g : ℕ → List ℕ) (k : ℕ) where
-  pub list-held : (n : ℕ) → k < length (joined g n) → listWith g n k < n
+  pub list-counted : (n : ℕ) → k < length (joined g n) → listWith g n k < n
   unfolding joined anyBelow
-  list-held zero h = absurd (not-suc-le-zero h)
-  list-held (suc n) h = ltb-true _ _ (any-at (λ i. ltb k (length (joined g (suc i)))) (suc n) n (omega arith) (lt-ltb _ _ h))
+  list-counted zero h = absurd (not-suc-le-zero h)
+  list-counted (suc n) h =
+      ltb-true _ _ (any-at (λ i. ltb k (length (joined g (suc i)))) (suc n) n (omega arith) (lt-ltb _ _ h))
 
   before-list : (i : ℕ) → ((j : ℕ) → j < i → ltb k (length (joined g (suc j))) ≡ false) → length (joined g i) ≤ k
   unfolding joined
@@ -66,13 +73,14 @@ module _ (g : ℕ → List ℕ) (k : ℕ) where
       let w = first-is (λ j. ltb k (length (joined g (suc j)))) n in
       let same : (m : ℕ) → length (joined f m) ≡ length (joined g m) = λ m. joined-length f g m e in
       let low : length (joined f i) ≤ k = rw (same i) (before-list i (w .before)) in
-      let high : k < length (joined f (suc i)) = rw (same (suc i)) (ltb-true _ _ (w .there (list-held n h))) in
-      joined-at f i k low high n (list-held n h) ∙ rw (same i)
+      let high : k < length (joined f (suc i)) = rw (same (suc i)) (ltb-true _ _ (w .there (list-counted n h))) in
+      joined-at f i k low high n (list-counted n h) ∙ rw (same i)
 
 least-more : (k n : ℕ) → _≡_ {A = ℕ} (cond (ltb (min k n) n) (min k n) (cond (ltb k (suc n)) n (suc n))) (min k (suc n))
 least-more k n = go (ltb (min k n) n) refl (ltb k (suc n)) refl
   where
-    go : (t : Bool) → ltb (min k n) n ≡ t → (u : Bool) → ltb k (suc n) ≡ u → _≡_ {A = ℕ} (cond t (min k n) (cond u n (suc n))) (min k (suc n))
+    go : (t : Bool) → ltb (min k n) n ≡ t → (u : Bool) → ltb k (suc n) ≡ u
+        → _≡_ {A = ℕ} (cond t (min k n) (cond u n (suc n))) (min k (suc n))
     go true e u f = omega (arith, ltb-true (min k n) n e)
     go false e true f = omega (arith, ltb-false (min k n) n e, ltb-true k (suc n) f)
     go false e false f = omega (arith, ltb-false k (suc n) f)
@@ -98,7 +106,8 @@ module _ (f : ℕ → ℕ) where
   singles-at (suc n) k h =
       ⊎-elim
       (λ e. rw e (at-end n))
-      (λ l. List·getD-append (joined (λ i. f i ∷ []) n) (f n ∷ []) 0 k (omega (arith, singles-length n)) ∙ singles-at n k l)
+      (λ l. List·getD-append (joined (λ i. f i ∷ []) n) (f n ∷ []) 0 k (omega (arith, singles-length n))
+      ∙ singles-at n k l)
       (eq-or-lt-of-le (le-of-suc-le-suc h))
 
   -- element k stands in list k

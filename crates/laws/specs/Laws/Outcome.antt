@@ -26,15 +26,15 @@ abbrev numberIn : {A : Type 0} → Outcome A → ℕ
 numberIn (accepted v) = 0
 numberIn (refused k) = k
 
-pub accepted-number : {A : Type 0} (k : ℕ) (v n : A) → accepted n ≡ outcome k v → k ≡ 0
+pub accepted-refusal : {A : Type 0} (k : ℕ) (v n : A) → accepted n ≡ outcome k v → k ≡ 0
 unfolding outcome
-accepted-number zero v n e = refl
-accepted-number (suc k) v n e = false-true (sym (ap isAccepted e))
+accepted-refusal zero v n e = refl
+accepted-refusal (suc k) v n e = false-true (sym (ap isAccepted e))
 
-pub refused-number : {A : Type 0} (k : ℕ) (v : A) (n : ℕ) → refused n ≡ outcome k v → (k ≡ n) × (k ≡ 0 → ⊥)
+pub refused-refusal : {A : Type 0} (k : ℕ) (v : A) (n : ℕ) → refused n ≡ outcome k v → (k ≡ n) × (k ≡ 0 → ⊥)
 unfolding outcome
-refused-number zero v n e = false-true (ap isAccepted e)
-refused-number (suc k) v n e = (sym (ap numberIn e), λ z. absurd (omega arith))
+refused-refusal zero v n e = false-true (ap isAccepted e)
+refused-refusal (suc k) v n e = (sym (ap numberIn e), λ z. absurd (omega arith))
 
 -- the value, or another where there is none
 abbrev valueIn : {A : Type 0} → A → Outcome A → A

@@ -6,9 +6,11 @@ use mathlib.Core.List.{List, [], _∷_, _++_}
 use lib.ListN.{length, set, take, drop}
 use lib.Seq.{sets, set-out, sets-eq, take-append-seam}
 
-pub sets-append : {A : Type 0} (l : List A) (i : ℕ) (a b : List A) → sets l i (a ++ b) ≡ sets (sets l i a) (i + length a) b
+pub sets-append : {A : Type 0} (l : List A) (i : ℕ) (a b : List A)
+    → sets l i (a ++ b) ≡ sets (sets l i a) (i + length a) b
 sets-append l i [] b = ap (λ (k : ℕ). sets l k b) (omega arith)
-sets-append l i (x ∷ a) b = sets-append (set l i x) (suc i) a b ∙ ap (λ (k : ℕ). sets (sets l i (x ∷ a)) k b) (omega arith)
+sets-append l i (x ∷ a) b =
+    sets-append (set l i x) (suc i) a b ∙ ap (λ (k : ℕ). sets (sets l i (x ∷ a)) k b) (omega arith)
 
 -- a store past the end does nothing
 pub sets-out : {A : Type 0} (l : List A) (i : ℕ) (vs : List A) → length l ≤ i → sets l i vs ≡ l

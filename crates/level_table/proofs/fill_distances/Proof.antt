@@ -6,7 +6,7 @@ use mir.Syntax.{w32}
 use borrow.Author.Needs.{needs}
 use native.Mathlib.Omega.{arith}
 use Rattle.arith.specs.Laws.Local.{num}
-use Rattle.runs.specs.Log.{rowAt}
+use Rattle.log.specs.Log.{rowAt}
 use Rattle.level_table.specs.Table.{partAt}
 use Rattle.level_table.specs.Filled.{withPart}
 use Rattle.level_table.specs.Laws.Rule.{Ruled, ruled-level}

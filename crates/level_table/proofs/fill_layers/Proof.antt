@@ -3,7 +3,7 @@ use Prim.Native.Nat.{ℕ, _/_, _%_}
 use lib.IntN.{pos}
 use lib.ListN.{getD, length}
 use borrow.Author.Needs.{needs}
-use Rattle.runs.specs.Log.{rowAt}
+use Rattle.log.specs.Log.{rowAt}
 use Rattle.preference.specs.Level.{layerOf}
 use Rattle.preference.specs.declared.PartAt.{PartAt}
 use Rattle.level_table.specs.Table.{partAt}
@@ -42,12 +42,15 @@ returns c =
     let x = g .before .before .rule-of in
     let y = g .names-of in
     c .before .before .fill-named .ensures
-    ∙ with-part-cong (rowLayer (y .result .values) (y .result .layers) (y .result .count) (a .others) (a .log .now) (x .result .column)) (partAt (a .list) (a .log .now) (a .k)) (a .into) (a .table .now)
+    ∙ with-part-cong (rowLayer (y .result .values) (y .result .layers) (y .result .count) (a .others) (a .log .now) (x .result .column))
+    (partAt (a .list) (a .log .now) (a .k)) (a .into) (a .table .now)
     (length (a .log .now) / 8)
     (λ r.
     let row = rowAt (a .log .now) r in
     let v = getD row (x .result .column) (pos 0) in
-    ap (λ (n : ℕ). n % 65536) (y .ensures .layer v (a .others) ∙ ap (λ (q : PartAt). layerOf (a .list) (q .place) v (a .others)) (p .ensures) ∙ rw (x .ensures) (s .pre .0 .level row)))
+    ap (λ (n : ℕ). n % 65536)
+    (y .ensures .layer v (a .others) ∙ ap (λ (q : PartAt). layerOf (a .list) (q .place) v (a .others)) (p .ensures)
+    ∙ rw (x .ensures) (s .pre .0 .level row)))
 
 pub fill-layers-spec : {M : Type 1} → statement M
 fill-layers-spec =

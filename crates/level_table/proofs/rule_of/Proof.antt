@@ -12,11 +12,11 @@ use Rattle.level_table.proofs.rule_of.Tie as tie
 
 -- k is that of a part, whose preference is held
 module _ (p : tie.After-part-at) where
-  held : p .before .before .before .args .k < length (maxLevels (p .before .before .before .args .t1))
-  held = rw (p .before .before .parts .ensures) at (p .before .if1 .left)
+  counted : p .before .before .before .args .k < length (maxLevels (p .before .before .before .args .t1))
+  counted = rw (p .before .before .parts .ensures) at (p .before .if1 .left)
 
   inside : p .part-at .result .place < 8
-  inside = rw (p .part-at .ensures) (omega (arith, part-place (p .before .before .before .args .t1) (p .before .before .before .args .k) held))
+  inside = rw (p .part-at .ensures) (omega (arith, part-place (p .before .before .before .args .t1) (p .before .before .before .args .k) counted))
 
 parts-requires : tie.Need-parts-requires
 parts-requires c κs = search needs
@@ -53,7 +53,7 @@ returns-2 c =
     let p = g .before .before in
     let k = c .before .before .before .before .struct-told .given in
     rw (
-      lt-leb _ _ (held p),
+      lt-leb _ _ (counted p),
       ← p .part-at .ensures,
       c .wide .ensures,
       c .before .layering-of .ensures,

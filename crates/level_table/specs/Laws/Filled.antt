@@ -34,7 +34,8 @@ module _ (f : ℕ → ℕ) (k : ℕ) (small : k < 8) (t : List ℕ) where
       ap (λ (j : ℕ). getD (set (withPart f k n t) j (f n)) i 0) p
       ∙ getD-set-same (withPart f k n t) i (f n) 0 (omega (arith, with-part-length f k t n))
       ∙ ap f (sym q))
-      (λ (q : i / 8 < n). getD-set-other (withPart f k n t) (8 * n + k) i (f n) 0 (λ p. absurd (omega arith)) ∙ part-in n i l e q)
+      (λ (q : i / 8 < n). getD-set-other (withPart f k n t) (8 * n + k) i (f n) 0 (λ p. absurd (omega arith))
+      ∙ part-in n i l e q)
       (eq-or-lt-of-le (le-of-suc-le-suc h))
 
 -- ---- the parts, one after the other
@@ -58,7 +59,8 @@ module _ (f : ℕ → ℕ → ℕ) (n : ℕ) (t : List ℕ) where
       (λ (q : i % 8 ≡ k).
       part-in (f k) k b (withParts f k n t) n i (omega (arith, parts-length k)) q h
       ∙ ap (λ (j : ℕ). f j (i / 8)) (sym q))
-      (λ (q : i % 8 < k). part-out (f k) k b (withParts f k n t) n i (λ e. absurd (omega arith)) ∙ parts-in k i (omega arith) l q h)
+      (λ (q : i % 8 < k). part-out (f k) k b (withParts f k n t) n i (λ e. absurd (omega arith))
+      ∙ parts-in k i (omega arith) l q h)
       (eq-or-lt-of-le (le-of-suc-le-suc m))
 
 -- ---- from the front
@@ -83,18 +85,23 @@ module _ (g : ℕ → ℕ) (t : List ℕ) where
   front-in (suc m) i l h =
       rw (front-more m)
       (⊎-elim
-      (λ (q : i ≡ m). rw q (getD-set-same (front m) m (g m) 0 (omega (arith, length-sets t 0 (joined (λ i. g i ∷ []) m)))))
+      (λ (q : i ≡ m). rw q
+      (getD-set-same (front m) m (g m) 0 (omega (arith, length-sets t 0 (joined (λ i. g i ∷ []) m)))))
       (λ (q : i < m). getD-set-other (front m) m i (g m) 0 (λ e. absurd (omega arith)) ∙ front-in m i l q)
       (eq-or-lt-of-le (le-of-suc-le-suc h)))
 
-pub filled : (f : ℕ → ℕ → ℕ) (n : ℕ) (t : List ℕ) → withParts f 8 n t ≡ sets t 0 (joined (λ i. f (i % 8) (i / 8) ∷ []) (8 * n))
+pub filled : (f : ℕ → ℕ → ℕ) (n : ℕ) (t : List ℕ)
+    → withParts f 8 n t ≡ sets t 0 (joined (λ i. f (i % 8) (i / 8) ∷ []) (8 * n))
 filled f n t =
     ext-getD 0 (withParts f 8 n t) (sets t 0 (joined (λ i. f (i % 8) (i / 8) ∷ []) (8 * n)))
     (parts-length f n t 8 ∙ sym (length-sets t 0 (joined (λ i. f (i % 8) (i / 8) ∷ []) (8 * n))))
     (λ i l. go i (omega (arith, parts-length f n t 8)) (decLt (i / 8) n))
   where
-    go : (i : ℕ) → i < length t → Dec (i / 8 < n) → getD (withParts f 8 n t) i 0 ≡ getD (sets t 0 (joined (λ i. f (i % 8) (i / 8) ∷ []) (8 * n))) i 0
-    go i l (yes q) = parts-in f n t 8 i (omega arith) l (omega arith) q ∙ sym (front-in (λ j. f (j % 8) (j / 8)) t (8 * n) i l (omega arith))
+    go : (i : ℕ) → i < length t → Dec (i / 8 < n)
+        → getD (withParts f 8 n t) i 0 ≡ getD (sets t 0 (joined (λ i. f (i % 8) (i / 8) ∷ []) (8 * n))) i 0
+    go i l (yes q) =
+        parts-in f n t 8 i (omega arith) l (omega arith) q
+        ∙ sym (front-in (λ j. f (j % 8) (j / 8)) t (8 * n) i l (omega arith))
     go i l (no q) =
         let h : n ≤ i / 8 = omega arith in
         parts-out f n t 8 i (omega arith) h ∙ sym (front-out (λ j. f (j % 8) (j / 8)) t (8 * n) i (omega arith))

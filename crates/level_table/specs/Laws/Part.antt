@@ -16,7 +16,8 @@ module _ (f : ℕ → ℕ) (k : ℕ) (t : List ℕ) where
   with-part-length zero = refl
   with-part-length (suc n) = length-set (withPart f k n t) (8 * n + k) (f n) ∙ with-part-length n
 
-pub with-part-cong : (f g : ℕ → ℕ) (k : ℕ) (t : List ℕ) (n : ℕ) → ((r : ℕ) → f r ≡ g r) → withPart f k n t ≡ withPart g k n t
+pub with-part-cong : (f g : ℕ → ℕ) (k : ℕ) (t : List ℕ) (n : ℕ) → ((r : ℕ) → f r ≡ g r)
+    → withPart f k n t ≡ withPart g k n t
 unfolding withPart
 with-part-cong f g k t zero h = refl
 with-part-cong f g k t (suc n) h = rw (with-part-cong f g k t n h, h n)

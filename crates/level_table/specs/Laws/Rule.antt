@@ -17,16 +17,18 @@ use Rattle.constructor.specs.Laws.Target.{distance-outside}
 use Rattle.constructor.specs.declared.Layering.the-variants.{Numeric, Layers}
 use Rattle.preference.specs.List.{preferenceAt, constructorAt}
 use Rattle.preference.specs.Level.{layerOf, levelAt}
-use Rattle.preference.specs.Laws.Parts.{level-held, level-past}
+use Rattle.preference.specs.Laws.Parts.{level-counted, level-past}
 use Rattle.preference.specs.Parts.{levels, rowValue, maxLevels, partOf}
 use Rattle.level_table.specs.Rule.{zeroRule, ruleFor, ruleOf}
 use Rattle.preference.specs.declared.PreferenceList.{PreferenceList}
 
-numeric-at : (l : PreferenceList) (i : ℕ) (v : ℤ) → layeringOf (constructorAt l i) ≡ Numeric → levelAt l i v ≡ numericLevel (constructorAt l i) v
+numeric-at : (l : PreferenceList) (i : ℕ) (v : ℤ) → layeringOf (constructorAt l i) ≡ Numeric
+    → levelAt l i v ≡ numericLevel (constructorAt l i) v
 unfolding levelAt
 numeric-at l i v y = rw y
 
-layers-at : (l : PreferenceList) (i : ℕ) (v : ℤ) (top others : ℕ) → layeringOf (constructorAt l i) ≡ Layers top others → levelAt l i v ≡ layerOf l i v others
+layers-at : (l : PreferenceList) (i : ℕ) (v : ℤ) (top others : ℕ) → layeringOf (constructorAt l i) ≡ Layers top others
+    → levelAt l i v ≡ layerOf l i v others
 unfolding levelAt
 layers-at l i v top others y = rw y
 
@@ -39,32 +41,44 @@ module _ (l : PreferenceList) (row : List ℤ) (k : ℕ) where
   unfolding ruleOf
   rule-past e = rw e
 
-  rule-held : leb (length (maxLevels l)) k ≡ false → ruleOf l k ≡ ruleFor (preferenceAt l place)
+  rule-counted : leb (length (maxLevels l)) k ≡ false → ruleOf l k ≡ ruleFor (preferenceAt l place)
   unfolding ruleOf
-  rule-held e = rw e
+  rule-counted e = rw e
 
   -- by distance
-  pub rule-numeric : ruleOf l k .layering ≡ Numeric → (v : ℤ) → v ≡ getD row (ruleOf l k .column) (pos 0) → mag v < 2147483648
+  pub rule-numeric : ruleOf l k .layering ≡ Numeric → (v : ℤ) → v ≡ getD row (ruleOf l k .column) (pos 0)
+      → mag v < 2147483648
       → ceilDiv (gap (ruleOf l k .low) v + gap v (ruleOf l k .up)) (ruleOf l k .step) ≡ getD (levels l row) k 0
   rule-numeric y v e h = go (leb (length (maxLevels l)) k) refl
     where
-      go : (t : Bool) → leb (length (maxLevels l)) k ≡ t → ceilDiv (gap (ruleOf l k .low) v + gap v (ruleOf l k .up)) (ruleOf l k .step) ≡ getD (levels l row) k 0
-      go true b = rw (rule-past b) (ceil-zero (gap (pos 0) v + gap v (pos 0)) ∙ sym (level-past l row k (leb-true (length (maxLevels l)) k b)))
+      go : (t : Bool) → leb (length (maxLevels l)) k ≡ t
+          → ceilDiv (gap (ruleOf l k .low) v + gap v (ruleOf l k .up)) (ruleOf l k .step) ≡ getD (levels l row) k 0
+      go true b =
+          rw (rule-past b)
+          (ceil-zero (gap (pos 0) v + gap v (pos 0)) ∙ sym (level-past l row k (leb-true (length (maxLevels l)) k b)))
       go false b =
-          let f = rule-held b in
+          let f = rule-counted b in
           let c = constructorAt l place in
           rw (f, distance-outside c v h)
-          (ap (numericLevel c) (rw f at e) ∙ sym (level-held l k (leb-false (length (maxLevels l)) k b) row ∙ numeric-at l place (rowValue l row place) (rw f at y)))
+          (ap (numericLevel c) (rw f at e)
+          ∙ sym (level-counted l k (leb-false (length (maxLevels l)) k b) row
+          ∙ numeric-at l place (rowValue l row place) (rw f at y)))
 
   -- by layers
-  pub rule-layers : (top others : ℕ) → ruleOf l k .layering ≡ Layers top others → layerOf l place (getD row (ruleOf l k .column) (pos 0)) others ≡ getD (levels l row) k 0
+  pub rule-layers : (top others : ℕ) → ruleOf l k .layering ≡ Layers top others
+      → layerOf l place (getD row (ruleOf l k .column) (pos 0)) others ≡ getD (levels l row) k 0
   rule-layers top others y = go (leb (length (maxLevels l)) k) refl
     where
-      go : (t : Bool) → leb (length (maxLevels l)) k ≡ t → layerOf l place (getD row (ruleOf l k .column) (pos 0)) others ≡ getD (levels l row) k 0
-      go true b = let q : Numeric ≡ Layers top others = rw (rule-past b) at y in let z : _≡_ {A = ℕ} 0 1 = cc in absurd (omega arith)
+      go : (t : Bool) → leb (length (maxLevels l)) k ≡ t
+          → layerOf l place (getD row (ruleOf l k .column) (pos 0)) others ≡ getD (levels l row) k 0
+      go true b =
+          let q : Numeric ≡ Layers top others =
+          rw (rule-past b) at y in let z : _≡_ {A = ℕ} 0 1 = cc in absurd (omega arith)
       go false b =
-          let f = rule-held b in
-          rw f (sym (level-held l k (leb-false (length (maxLevels l)) k b) row ∙ layers-at l place (rowValue l row place) top others (rw f at y)))
+          let f = rule-counted b in
+          rw f (sym
+          (level-counted l k (leb-false (length (maxLevels l)) k b) row
+          ∙ layers-at l place (rowValue l row place) top others (rw f at y)))
 
 -- part k goes by distance, with the figures of its rule
 pub record Ruled (l : PreferenceList) (k column : ℕ) (low up : ℤ) (step : ℕ) : Type 0 where
@@ -74,7 +88,8 @@ pub record Ruled (l : PreferenceList) (k column : ℕ) (low up : ℤ) (step : �
   pub up-is : ruleOf l k .up ≡ up
   pub step-is : ruleOf l k .step ≡ step
 
-pub ruled-level : (l : PreferenceList) (k column : ℕ) (low up : ℤ) (step : ℕ) → Ruled l k column low up step → (row : List ℤ) (v : ℤ) → v ≡ getD row column (pos 0) → mag v < 2147483648
+pub ruled-level : (l : PreferenceList) (k column : ℕ) (low up : ℤ) (step : ℕ) → Ruled l k column low up step
+    → (row : List ℤ) (v : ℤ) → v ≡ getD row column (pos 0) → mag v < 2147483648
     → ceilDiv (gap low v + gap v up) step ≡ getD (levels l row) k 0
 ruled-level l k column low up step h row v e b =
     rw (← h .low-is, ← h .up-is, ← h .step-is) (rule-numeric l row k (h .numeric) v (rw (h .column-is) e) b)

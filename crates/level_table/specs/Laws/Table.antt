@@ -9,9 +9,9 @@ use lib.ListN.{length, getD, take, drop, length-append, drop-of-length-le}
 use lib.Seq.{sets, sets-eq, take-at, length-take-le}
 use borrow.Author.Tests.{le-ltb}
 use Rattle.laws.specs.Laws.Joined.{singles-at, singles-length}
-use Rattle.runs.specs.Log.{rowCount, rowAt}
-use Rattle.preference.specs.Valid.{listNumber}
-use Rattle.preference.specs.Parts.{levels, maxLevels, rowNumber}
+use Rattle.log.specs.Log.{rowCount, rowAt}
+use Rattle.preference.specs.Valid.{listRefusal}
+use Rattle.preference.specs.Parts.{levels, maxLevels, rowRefusal}
 use Rattle.preference.specs.Laws.Parts.{within-at, at-most-at, max-levels-small, levels-within}
 use Rattle.preference.specs.declared.PreferenceList.{PreferenceList}
 use Rattle.level_table.specs.Table.{partAt, tableLength, tableOf, withTable}
@@ -43,7 +43,8 @@ module _ (l : PreferenceList) (log : List ℤ) (zeros : List ℕ) (n : ℕ) (e :
   unfolding withTable
   last-is =
       let long = length-take-le n zeros h ∙ e in
-      f ∙ rw (le-ltb (length (take n zeros)) (tableLength l log) (omega (arith, long))) (table-whole l log (take n zeros) long)
+      f ∙ rw (le-ltb (length (take n zeros)) (tableLength l log) (omega (arith, long)))
+      (table-whole l log (take n zeros) long)
 
   last-long : length last ≡ n
   last-long = ap length last-is ∙ table-long l log ∙ sym e
@@ -55,7 +56,7 @@ module _ (l : PreferenceList) (log : List ℤ) (zeros : List ℕ) (n : ℕ) (e :
   table-handed = take-at last (drop n zeros) n last-long ∙ last-is
 
 -- a row that its checks accept stands in the table with its level vector
-module _ (l : PreferenceList) (log : List ℤ) (e : listNumber l ≡ 0) (r : ℕ) (f : rowNumber l (rowAt log r) ≡ 0) where
+module _ (l : PreferenceList) (log : List ℤ) (e : listRefusal l ≡ 0) (r : ℕ) (f : rowRefusal l (rowAt log r) ≡ 0) where
   level-small : (k : ℕ) → getD (levels l (rowAt log r)) k 0 < 65536
   level-small k =
       let w = levels-within l e (rowAt log r) f in

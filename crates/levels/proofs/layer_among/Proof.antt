@@ -21,10 +21,10 @@ abbrev isValue : List ℤ → ℤ → ℕ → Bool
 isValue values v j = eqZ (getD values j (pos 0)) v
 
 abbrev Inv-loop : tie.InvT-loop
-Inv-loop values layers n v others held k₀ k = (k ≤ held) × (firstAt (isValue values (toZ w32 v)) k ≡ k)
+Inv-loop values layers n v others counted k₀ k = (k ≤ counted) × (firstAt (isValue values (toZ w32 v)) k ≡ k)
 
 abbrev μ-loop : tie.MeasureT-loop
-μ-loop values layers n v others held k₀ k = held - k
+μ-loop values layers n v others counted k₀ k = counted - k
 
 least-requires : tie.Need-least-requires Inv-loop μ-loop
 least-requires c κs = search needs

@@ -6,41 +6,41 @@ use Rattle.laws.specs.Checks.{_gives_, _then_}
 use Rattle.laws.specs.Outcome.{outcome}
 use Rattle.laws.specs.Laws.Checks.{then-first}
 use Rattle.laws.specs.Laws.Outcome.{outcome-accepted, outcome-refused}
-use Rattle.preference.specs.Level.{levelAt, levelNumber, valueNumber}
+use Rattle.preference.specs.Level.{levelAt, levelRefusal, valueRefusal}
 use Rattle.preference.specs.Laws.Level.{level-small}
 use borrow.Author.Needs.{needs}
 use native.Mathlib.Omega.{arith}
 use Rattle.levels.proofs.level.Statement.{statement}
 use Rattle.levels.proofs.level.Tie as tie
 
-number-requires : tie.Need-number-requires
-number-requires c κs = search needs
+refusal-requires : tie.Need-refusal-requires
+refusal-requires c κs = search needs
 
 returns : tie.Need-returns
-unfolding levelNumber
+unfolding levelRefusal
 returns c =
     let a = c .before .before .args in
-    let r = c .before .number in
-    rw (← r .ensures, then-first (r .result) (leb (a .list .count) (a .place) gives 10 then valueNumber (a .list) (a .place) (a .value)) (c .if1 .taken))
+    let r = c .before .refusal in
+    rw (← r .ensures, then-first (r .result) (leb (a .list .count) (a .place) gives 10 then valueRefusal (a .list) (a .place) (a .value)) (c .if1 .taken))
     (sym (outcome-refused (r .result) (levelAt (a .list) (a .place) (a .value)) (c .if1 .taken)))
 
 returns-2 : tie.Need-returns-2
-unfolding levelNumber _gives_ _then_ outcome
+unfolding levelRefusal _gives_ _then_ outcome
 returns-2 c =
     let b = c .before in
-    rw (← b .before .number .ensures, b .if1 .left, le-leb _ _ (c .if2 .taken))
+    rw (← b .before .refusal .ensures, b .if1 .left, le-leb _ _ (c .if2 .taken))
 
-value-number-requires : tie.Need-value-number-requires
-value-number-requires c κs = search needs
+value-refusal-requires : tie.Need-value-refusal-requires
+value-refusal-requires c κs = search needs
 
 returns-3 : tie.Need-returns-3
-unfolding levelNumber _gives_ _then_
+unfolding levelRefusal _gives_ _then_
 returns-3 c =
     let b = c .before .before .before in
     let a = b .before .before in
-    let r = c .before .value-number in
+    let r = c .before .value-refusal in
     let e = rw (num (a .args .value) (a .fits .value .sfits)) at (r .ensures) in
-    rw (← b .before .number .ensures, b .if1 .left, lt-leb _ _ (c .before .before .if2 .left), ← e)
+    rw (← b .before .refusal .ensures, b .if1 .left, lt-leb _ _ (c .before .before .if2 .left), ← e)
     (sym (outcome-refused (r .result) _ (c .if3 .taken)))
 
 level-at-requires : tie.Need-level-at-requires
@@ -52,29 +52,29 @@ cast-t10 c =
     let b = v .before .before in
     let a = b .before .before in
     let n = num (a .args .value) (a .fits .value .sfits) in
-    let z = sym (b .before .number .ensures) ∙ b .if1 .left in
-    let o = sym (rw n at (v .value-number .ensures)) ∙ c .before .if3 .left in
+    let z = sym (b .before .refusal .ensures) ∙ b .if1 .left in
+    let o = sym (rw n at (v .value-refusal .ensures)) ∙ c .before .if3 .left in
     omega (arith, rw n at (c .level-at .ensures), level-small (a .args .list) (a .args .place) z (v .before .if2 .left) (a .args .value) o)
 
 returns-4 : tie.Need-returns-4
-unfolding levelNumber _gives_ _then_
+unfolding levelRefusal _gives_ _then_
 returns-4 c =
     let v = c .before .before in
     let b = v .before .before in
     let a = b .before .before in
     let n = num (a .args .value) (a .fits .value .sfits) in
-    let e = rw n at (v .value-number .ensures) in
-    rw (← b .before .number .ensures, b .if1 .left, lt-leb _ _ (v .before .if2 .left), ← e, ← rw n at (c .level-at .ensures))
-    (sym (outcome-accepted (v .value-number .result) (c .level-at .result) (c .before .if3 .left)))
+    let e = rw n at (v .value-refusal .ensures) in
+    rw (← b .before .refusal .ensures, b .if1 .left, lt-leb _ _ (v .before .if2 .left), ← e, ← rw n at (c .level-at .ensures))
+    (sym (outcome-accepted (v .value-refusal .result) (c .level-at .result) (c .before .if3 .left)))
 
 pub level-spec : {M : Type 1} → statement M
 level-spec =
     tie.close
     (tie.spec
-    number-requires
+    refusal-requires
     returns
     returns-2
-    value-number-requires
+    value-refusal-requires
     returns-3
     level-at-requires
     cast-t10

@@ -16,8 +16,8 @@ Inv-loop i list n values₀ layers₀ m₀ k₀ values layers m k = (k ≤ n) ×
 abbrev μ-loop : tie.MeasureT-loop
 μ-loop i list n values₀ layers₀ m₀ k₀ values layers m k = n - k
 
-held-names-requires : tie.Need-held-names-requires Inv-loop μ-loop
-held-names-requires c κs = search needs
+counted-names-requires : tie.Need-counted-names-requires Inv-loop μ-loop
+counted-names-requires c κs = search needs
 
 loop-holds : tie.Need-loop-holds Inv-loop μ-loop
 loop-holds c = (search needs, search needs, refl, refl, gathered-none _ _ _ _)
@@ -70,9 +70,9 @@ returns : tie.Need-returns Inv-loop μ-loop
 unfolding layerOf
 returns c =
     let d = c .before in
-    let e : d .loop .k ≡ d .before .held-names .result = omega arith in
+    let e : d .loop .k ≡ d .before .counted-names .result = omega arith in
     let m : min (d .loop .m) (min (length (d .loop .values)) (length (d .loop .layers))) ≡ d .loop .m = omega (arith, d .loop .inv .4 .few) in
-    record { layer = λ v others. rw (m, ← d .before .held-names .ensures, ← e) (d .loop .inv .4 .layer v others) }
+    record { layer = λ v others. rw (m, ← d .before .counted-names .ensures, ← e) (d .loop .inv .4 .layer v others) }
 
 pub names-of-spec : {M : Type 1} → statement M
 names-of-spec =
@@ -80,7 +80,7 @@ names-of-spec =
     (tie.spec
     Inv-loop
     μ-loop
-    held-names-requires
+    counted-names-requires
     loop-holds
     mul-e
     element-copy-out-e

@@ -5,17 +5,17 @@ use lib.ListN.{length}
 use borrow.Author.Needs.{needs}
 use Rattle.arith.specs.Laws.Local.{num}
 use Rattle.preference.specs.Parts.{maxLevels, partOf}
-use Rattle.preference.specs.Laws.Parts.{part-place, level-held, level-past}
+use Rattle.preference.specs.Laws.Parts.{part-place, level-counted, level-past}
 use Rattle.levels.proofs.part_level.Statement.{statement}
 use Rattle.levels.proofs.part_level.Tie as tie
 
 -- k is that of a part, whose preference is held
 module _ (p : tie.After-part-at) where
-  held : p .before .before .before .args .k < length (maxLevels (p .before .before .before .args .t1))
-  held = rw (p .before .before .parts .ensures) at (p .before .if1 .left)
+  counted : p .before .before .before .args .k < length (maxLevels (p .before .before .before .args .t1))
+  counted = rw (p .before .before .parts .ensures) at (p .before .if1 .left)
 
   inside : p .part-at .result .place < 8
-  inside = rw (p .part-at .ensures) (omega (arith, part-place (p .before .before .before .args .t1) (p .before .before .before .args .k) held))
+  inside = rw (p .part-at .ensures) (omega (arith, part-place (p .before .before .before .args .t1) (p .before .before .before .args .k) counted))
 
 parts-requires : tie.Need-parts-requires
 parts-requires c κs = search needs
@@ -45,7 +45,7 @@ returns-2 c =
     let v = c .before .run-value in
     let p = c .before .before .before in
     let a = p .before .before .before .args in
-    rw (num (v .result) (v .ok), v .ensures, p .part-at .ensures) at (c .level-at .ensures) ∙ sym (level-held (a .t1) (a .k) (held p) (a .row .now))
+    rw (num (v .result) (v .ok), v .ensures, p .part-at .ensures) at (c .level-at .ensures) ∙ sym (level-counted (a .t1) (a .k) (counted p) (a .row .now))
 
 pub part-level-spec : {M : Type 1} → statement M
 part-level-spec =

@@ -5,7 +5,7 @@ use Rattle.constructor.specs.Level.{maxLevel}
 use Rattle.preference.specs.List.{constructorAt}
 use Rattle.preference.specs.Level.{maxAt}
 use Rattle.preference.specs.Parts.{maxLevels}
-use Rattle.preference.specs.Laws.Parts.{max-held}
+use Rattle.preference.specs.Laws.Parts.{max-counted}
 use Rattle.preference.specs.declared.PartAt.{PartAt}
 use Rattle.levels.proofs.part_max.Statement.{statement}
 use Rattle.levels.proofs.part_max.Tie as tie
@@ -35,7 +35,7 @@ returns-2 c =
     let a = b .before .before .args in
     c .max-level .ensures
     ∙ ap maxLevel (c .before .constructor-at .ensures ∙ ap (λ (q : PartAt). constructorAt (a .list) (q .place)) (p .part-at .ensures))
-    ∙ sym (max-held (a .list) (a .k) (rw (b .before .parts .ensures) at (b .if1 .left)))
+    ∙ sym (max-counted (a .list) (a .k) (rw (b .before .parts .ensures) at (b .if1 .left)))
 
 pub part-max-spec : {M : Type 1} → statement M
 part-max-spec =

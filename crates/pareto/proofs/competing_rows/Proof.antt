@@ -6,7 +6,7 @@ use mathlib.Core.Logic.{⊎-elim}
 use lib.ListN.{length}
 use lib.Seq.{length-sets}
 use Rattle.laws.specs.Lists.{passing}
-use Rattle.runs.specs.Log.{logOf}
+use Rattle.log.specs.Log.{logOf}
 use Rattle.pareto.specs.Best.{competes, competing}
 use Rattle.pareto.specs.Laws.Competing.{Listed, listed-none, listed-one, listed-other}
 use Rattle.pareto.proofs.competing_rows.Statement.{statement}

@@ -49,8 +49,10 @@ loop-again c =
     let d = c .before .before .before in
     let a = d .before .before .args in (
       search needs,
-      ap (λ (b : Bool). b || lower (a .table .now) (a .p) (a .q) (d .loop .k)) (d .loop .inv .1) ∙ sym (any-more (lower (a .table .now) (a .p) (a .q)) (d .loop .k)),
-      ap (λ (b : Bool). b || lower (a .table .now) (a .q) (a .p) (d .loop .k)) (d .loop .inv .2) ∙ sym (any-more (lower (a .table .now) (a .q) (a .p)) (d .loop .k)),
+      ap (λ (b : Bool). b || lower (a .table .now) (a .p) (a .q) (d .loop .k)) (d .loop .inv .1)
+          ∙ sym (any-more (lower (a .table .now) (a .p) (a .q)) (d .loop .k)),
+      ap (λ (b : Bool). b || lower (a .table .now) (a .q) (a .p) (d .loop .k)) (d .loop .inv .2)
+          ∙ sym (any-more (lower (a .table .now) (a .q) (a .p)) (d .loop .k)),
     )
 
 relation-of-requires : tie.Need-relation-of-requires Inv-loop μ-loop

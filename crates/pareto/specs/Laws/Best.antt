@@ -8,7 +8,7 @@ use borrow.Author.Tests.{not-true}
 use Rattle.laws.specs.Lists.{anyOf}
 use Rattle.laws.specs.Laws.AnyOf.{Found, passing-found, passing-any}
 use Rattle.laws.specs.Laws.Bools.{both, false-true}
-use Rattle.runs.specs.Log.{Log, rowCount, rowAt}
+use Rattle.log.specs.Log.{Log, rowCount, rowAt}
 use Rattle.preference.specs.Laws.Parts.{levels-length}
 use Rattle.preference.specs.declared.PreferenceList.{PreferenceList}
 use Rattle.pareto.specs.Best.{competes, competing, vectorAt, rowDominates, isBest, BestMatch}

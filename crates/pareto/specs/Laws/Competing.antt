@@ -13,7 +13,7 @@ use lib.ListN.{length, getD, set, take, length-append}
 use lib.Seq.{sets}
 use Rattle.laws.specs.Lists.{joined, passing}
 use Rattle.laws.specs.Laws.Stores.{sets-append, stored-front}
-use Rattle.runs.specs.Log.{Log, rowCount, rowAt}
+use Rattle.log.specs.Log.{Log, rowCount, rowAt}
 use Rattle.pareto.specs.Best.{competes, competing}
 
 -- whether a row competes is told by the row

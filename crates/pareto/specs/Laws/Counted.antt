@@ -6,7 +6,7 @@ use mathlib.Core.Bool.{Bool, not, _&&_, cond}
 use mathlib.Core.List.{List, [], _∷_, _++_}
 use lib.ListN.{drop}
 use Rattle.laws.specs.Lists.{joined, anyOf}
-use Rattle.runs.specs.Log.{Log, rowCount, rowAt}
+use Rattle.log.specs.Log.{Log, rowCount, rowAt}
 use Rattle.preference.specs.Same.{Same}
 use Rattle.preference.specs.Laws.Counted.{levels-same}
 use Rattle.preference.specs.declared.PreferenceList.{PreferenceList}

@@ -7,7 +7,7 @@ use mathlib.Core.List.{List, [], _∷_}
 use lib.Dec.{eqb}
 use lib.ListN.{getD, drop, List·getD-append}
 use Rattle.laws.specs.Laws.Joined.{joined-cong, singles-at, singles-length}
-use Rattle.runs.specs.Log.{Log, rowCount}
+use Rattle.log.specs.Log.{Log, rowCount}
 use Rattle.preference.specs.declared.PreferenceList.{PreferenceList}
 use Rattle.pareto.specs.Best.{isBest, bestMatches, markAt, marksOf, marksAfter, markedRows}
 

@@ -11,17 +11,17 @@ use lib.ListN.{length, getD, List·getD-eq-default}
 use borrow.Author.Tests.{ltb-true, lt-ltb, le-ltb, leb-true, leb-false}
 use Rattle.laws.specs.First.{anyBelow}
 use Rattle.laws.specs.Laws.Bools.{both-ways}
-use Rattle.laws.specs.Laws.First.{any-found, any-at, any-cong, number-zero}
-use Rattle.runs.specs.Log.{Log, rowCount, rowAt}
-use Rattle.preference.specs.Valid.{listNumber}
-use Rattle.preference.specs.Parts.{levels, rowNumber}
+use Rattle.laws.specs.Laws.First.{any-found, any-at, any-cong, refusal-zero}
+use Rattle.log.specs.Log.{Log, rowCount, rowAt}
+use Rattle.preference.specs.Valid.{listRefusal}
+use Rattle.preference.specs.Parts.{levels, rowRefusal}
 use Rattle.preference.specs.Laws.Parts.{levels-length, parts-few}
 use Rattle.preference.specs.declared.PreferenceList.{PreferenceList}
 use Rattle.level_table.specs.Table.{tableOf}
 use Rattle.level_table.specs.Laws.Table.{table-rows, table-long, table-levels}
 use Rattle.pareto.specs.Dominance.{noneAbove, someBelow, dominates}
 use Rattle.pareto.specs.Best.{vectorAt, rowDominates}
-use Rattle.pareto.specs.Checked.{rowsNumber}
+use Rattle.pareto.specs.Checked.{rowsRefusal}
 use Rattle.pareto.specs.Table.{lower, hasLower, firstDominates, relation, compared}
 use Rattle.pareto.specs.Laws.Dominance.{below-at, below-of}
 
@@ -59,11 +59,11 @@ some-of-eight v w l h =
 
 -- ---- the table
 
-module _ (l : PreferenceList) (log : List ℤ) (e : listNumber l ≡ 0) (f : rowsNumber l log ≡ 0) where
+module _ (l : PreferenceList) (log : List ℤ) (e : listRefusal l ≡ 0) (f : rowsRefusal l log ≡ 0) where
   pub table-at : (a k : ℕ) → a < rowCount log → k < 8
       → getD (tableOf l log) (8 * a + k) 0 ≡ getD (levels l (rowAt log a)) k 0
-  unfolding rowsNumber
-  table-at a k h j = table-levels l log e a (number-zero (λ r. rowNumber l (rowAt log r)) (rowCount log) f a h) k h j
+  unfolding rowsRefusal
+  table-at a k h j = table-levels l log e a (refusal-zero (λ r. rowRefusal l (rowAt log r)) (rowCount log) f a h) k h j
 
   rows-tabled : length (tableOf l log) / 8 ≡ rowCount log
   rows-tabled = omega (arith, table-long l log, table-rows l log)
@@ -79,7 +79,7 @@ module _ (l : PreferenceList) (log : List ℤ) (e : listNumber l ≡ 0) (f : row
       (omega (arith, levels-length l (rowAt log b), parts-few l))
 
 -- the first dominates exactly where row a dominates row b
-pub compared-dominates : (l : PreferenceList) (log : Log) → listNumber l ≡ 0 → rowsNumber l (log .values) ≡ 0
+pub compared-dominates : (l : PreferenceList) (log : Log) → listRefusal l ≡ 0 → rowsRefusal l (log .values) ≡ 0
     → (a b : ℕ) → a < rowCount (log .values) → b < rowCount (log .values)
     → eqb (compared (tableOf l (log .values)) a b) firstDominates ≡ rowDominates l log a b
 unfolding compared hasLower rowDominates dominates vectorAt

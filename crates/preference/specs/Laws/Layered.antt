@@ -1,4 +1,5 @@
--- LAYERED in document 01's words (000, Def. 10): "the layer of the first NAMED with that value, else the layer of other values."
+-- LAYERED in document 01's words (000, Def. 10): "the layer of the first NAMED with that value, else the layer of other
+-- values."
 use mathlib.Core.Path.{_≡_, refl, sym, ap, _∙_}
 use Prim.Native.Nat.{ℕ, _<_, _≤_}
 use native.Mathlib.Nat.{eq-or-lt-of-le}
@@ -14,7 +15,7 @@ use Rattle.laws.specs.Laws.First.{First, first-is, search-hit}
 use Rattle.arith.specs.Gap.{eqZ}
 use Rattle.constructor.specs.Level.{layeringOf}
 use Rattle.constructor.specs.declared.Layering.the-variants.{Layers}
-use Rattle.preference.specs.List.{constructorAt, namedAt, names}
+use Rattle.preference.specs.List.{constructorAt, namedAt, namedPlaces}
 use Rattle.preference.specs.Level.{isNamed, layerOf, levelAt}
 use Rattle.preference.specs.declared.PreferenceList.{PreferenceList}
 
@@ -35,7 +36,8 @@ int-same (negsuc a) (negsuc b) e = ap negsuc (eqb-true a b e)
 none-first : (p : ℕ → Bool) (k : ℕ) → ((j : ℕ) → j < k → p j ≡ false) → firstAt p k ≡ k
 none-first p k h =
     let f = first-is p k in
-    ⊎-elim (λ (e : firstAt p k ≡ k). e) (λ (b : firstAt p k < k). false-true (sym (h (firstAt p k) b) ∙ f .there b)) (eq-or-lt-of-le (f .within))
+    ⊎-elim (λ (e : firstAt p k ≡ k). e) (λ (b : firstAt p k < k). false-true (sym (h (firstAt p k) b) ∙ f .there b))
+    (eq-or-lt-of-le (f .within))
 
 module _ (l : PreferenceList) (i : ℕ) (v : ℤ) where
   named-is : (k : ℕ) → NamedAs l i v k → isNamed l i v k ≡ true
@@ -52,14 +54,19 @@ module _ (l : PreferenceList) (i : ℕ) (v : ℤ) where
 
   module _ (top others : ℕ) (form : layeringOf (constructorAt l i) ≡ Layers top others) where
     -- the first named value that is v decides, whatever stands behind it
-    pub layered-named : (k : ℕ) → k < names l → NamedAs l i v k → ((j : ℕ) → j < k → NamedAs l i v j → ⊥) → levelAt l i v ≡ namedAt l k .layer
+    pub layered-named : (k : ℕ) → k < namedPlaces l → NamedAs l i v k → ((j : ℕ) → j < k → NamedAs l i v j → ⊥)
+        → levelAt l i v ≡ namedAt l k .layer
     unfolding levelAt layerOf
     layered-named k h n before =
         let first = none-first (isNamed l i v) k (λ j b. named-not j (before j b)) in
-        rw (form, search-hit (isNamed l i v) k (names l) first (named-is k n) h, lt-ltb k (names l) h)
+        rw (form, search-hit (isNamed l i v) k (namedPlaces l) first (named-is k n) h, lt-ltb k (namedPlaces l) h)
 
     -- where none is, the layer of other values
-    pub layered-other : ((j : ℕ) → j < names l → NamedAs l i v j → ⊥) → levelAt l i v ≡ others
+    pub layered-other : ((j : ℕ) → j < namedPlaces l → NamedAs l i v j → ⊥) → levelAt l i v ≡ others
     unfolding levelAt layerOf
     layered-other none =
-        rw (form, none-first (isNamed l i v) (names l) (λ j b. named-not j (none j b)), le-ltb (names l) (names l) (omega arith))
+        rw (
+          form,
+          none-first (isNamed l i v) (namedPlaces l) (λ j b. named-not j (none j b)),
+          le-ltb (namedPlaces l) (namedPlaces l) (omega arith),
+        )

@@ -1,5 +1,5 @@
--- What the engines rest on: all level vectors of a list have one length, and under an accepted list the levels of a run that is
--- not refused by 8 are at most the greatest levels, which are at most 65,535.
+-- What the engines rest on: all level vectors of a list have one length, and under an accepted list the levels of a run
+-- that is not refused by 8 are at most the greatest levels, which are at most 65,535.
 use mathlib.Core.Path.{_≡_, refl, ap, _∙_}
 use Prim.Native.Nat.{ℕ, zero, suc, _-_, _<_, _≤_, min}
 use native.Mathlib.Omega.{arith}
@@ -7,13 +7,13 @@ use native.Mathlib.Nat.{min-le-right}
 use mathlib.Core.List.{List, [], _∷_, _++_}
 use lib.IntN.{ℤ}
 use lib.ListN.{getD, length, List·getD-eq-default}
-use Rattle.laws.specs.Laws.First.{number-zero}
+use Rattle.laws.specs.Laws.First.{refusal-zero}
 use Rattle.preference.specs.List.{places}
-use Rattle.preference.specs.Valid.{listNumber}
-use Rattle.preference.specs.Level.{levelAt, maxAt, valueNumber}
-use Rattle.preference.specs.Parts.{rowValue, levelParts, maxParts, levels, maxLevels, partOf, rowNumber}
+use Rattle.preference.specs.Valid.{listRefusal}
+use Rattle.preference.specs.Level.{levelAt, maxAt, valueRefusal}
+use Rattle.preference.specs.Parts.{rowValue, levelParts, maxParts, levels, maxLevels, partOf, rowRefusal}
 use Rattle.laws.specs.Lists.{joined}
-use Rattle.laws.specs.Laws.Joined.{joined-length, list-held, list-at, singles-length, singles-with}
+use Rattle.laws.specs.Laws.Joined.{joined-length, list-counted, list-at, singles-length, singles-with}
 use Rattle.preference.specs.Laws.Level.{level-most, max-small}
 use Rattle.preference.specs.Laws.Valid.{accepted, places-counted}
 use Rattle.preference.specs.declared.PreferenceList.{PreferenceList}
@@ -55,7 +55,8 @@ joined-within : (f g : ℕ → List ℕ) (n : ℕ) → ((i : ℕ) → i < n → 
 unfolding joined
 joined-within f g zero h = tt
 joined-within f g (suc n) h =
-    within-append (joined f n) (joined g n) (f n) (g n) (joined-within f g n (λ i l. h i (omega arith))) (h n (omega arith))
+    within-append (joined f n) (joined g n) (f n) (g n) (joined-within f g n (λ i l. h i (omega arith)))
+    (h n (omega arith))
 
 small-append : (b : ℕ) (ms ns : List ℕ) → AllAtMost b ms → AllAtMost b ns → AllAtMost b (ms ++ ns)
 small-append b [] ns h k = k
@@ -64,7 +65,8 @@ small-append b (m ∷ ms) ns h k = (h .0, small-append b ms ns (h .1) k)
 joined-small : (b : ℕ) (f : ℕ → List ℕ) (n : ℕ) → ((i : ℕ) → i < n → AllAtMost b (f i)) → AllAtMost b (joined f n)
 unfolding joined
 joined-small b f zero h = tt
-joined-small b f (suc n) h = small-append b (joined f n) (f n) (joined-small b f n (λ i l. h i (omega arith))) (h n (omega arith))
+joined-small b f (suc n) h =
+    small-append b (joined f n) (f n) (joined-small b f n (λ i l. h i (omega arith))) (h n (omega arith))
 
 -- ---- every list
 
@@ -76,9 +78,10 @@ levels-length l row = joined-length (levelParts l row) (maxParts l) (places l) (
 module _ (l : PreferenceList) (k : ℕ) (h : k < length (maxLevels l)) where
   pub part-place : partOf l k .place < places l
   unfolding partOf maxLevels
-  part-place = list-held (maxParts l) k (places l) h
+  part-place = list-counted (maxParts l) k (places l) h
 
-  pub part-level : (row : List ℤ) → getD (levels l row) k 0 ≡ getD (levelParts l row (partOf l k .place)) (partOf l k .half) 0
+  pub part-level : (row : List ℤ)
+      → getD (levels l row) k 0 ≡ getD (levelParts l row (partOf l k .place)) (partOf l k .half) 0
   unfolding partOf levels maxLevels
   part-level row = list-at (maxParts l) k (levelParts l row) (λ i. refl) (places l) h
 
@@ -92,43 +95,49 @@ level-past l row k h = List·getD-eq-default (levels l row) 0 (rw (levels-length
 
 -- ---- one part for each preference
 
-pub parts-held : (l : PreferenceList) → length (maxLevels l) ≡ places l
+pub parts-counted : (l : PreferenceList) → length (maxLevels l) ≡ places l
 unfolding maxLevels
-parts-held l = singles-length (maxAt l) (places l)
+parts-counted l = singles-length (maxAt l) (places l)
 
-pub part-single : (l : PreferenceList) (k : ℕ) → partOf l k ≡ record { place = min k (places l); half = k - min k (places l) }
+pub part-single : (l : PreferenceList) (k : ℕ)
+    → partOf l k ≡ record { place = min k (places l); half = k - min k (places l) }
 unfolding partOf
 part-single l k = rw (singles-with (maxAt l) (places l) k, singles-length (maxAt l) (min k (places l)))
 
 pub parts-few : (l : PreferenceList) → length (maxLevels l) ≤ 8
-parts-few l = omega (arith, parts-held l, min-le-right (l .count) 8)
+parts-few l = omega (arith, parts-counted l, min-le-right (l .count) 8)
 
 -- it is the level under its preference, and its greatest level is the preference's
 module _ (l : PreferenceList) (k : ℕ) (h : k < length (maxLevels l)) where
   half-none : partOf l k .half ≡ 0
-  half-none = ap (λ (p : PartAt). p .half) (part-single l k) ∙ omega (arith, parts-held l)
+  half-none = ap (λ (p : PartAt). p .half) (part-single l k) ∙ omega (arith, parts-counted l)
 
-  pub level-held : (row : List ℤ) → getD (levels l row) k 0 ≡ levelAt l (partOf l k .place) (rowValue l row (partOf l k .place))
-  level-held row = part-level l k h row ∙ rw half-none
+  pub level-counted : (row : List ℤ)
+      → getD (levels l row) k 0 ≡ levelAt l (partOf l k .place) (rowValue l row (partOf l k .place))
+  level-counted row = part-level l k h row ∙ rw half-none
 
-  pub max-held : getD (maxLevels l) k 0 ≡ maxAt l (partOf l k .place)
-  max-held = part-max l k h ∙ rw half-none
+  pub max-counted : getD (maxLevels l) k 0 ≡ maxAt l (partOf l k .place)
+  max-counted = part-max l k h ∙ rw half-none
 
 -- ---- an accepted list
 
-module _ (l : PreferenceList) (e : listNumber l ≡ 0) where
+module _ (l : PreferenceList) (e : listRefusal l ≡ 0) where
   counted : (i : ℕ) → i < places l → i < l .count
   counted i h = omega (arith, places-counted l e)
 
   pub parts-some : 0 < length (maxLevels l)
-  parts-some = omega (arith, parts-held l, places-counted l e, accepted l e .some)
+  parts-some = omega (arith, parts-counted l, places-counted l e, accepted l e .some)
 
   pub max-levels-small : AllAtMost 65535 (maxLevels l)
   unfolding maxLevels
   max-levels-small = joined-small 65535 (maxParts l) (places l) (λ i h. (max-small l i e (counted i h), tt))
 
-  pub levels-within : (row : List ℤ) → rowNumber l row ≡ 0 → Within (maxLevels l) (levels l row)
-  unfolding levels maxLevels rowNumber
+  pub levels-within : (row : List ℤ) → rowRefusal l row ≡ 0 → Within (maxLevels l) (levels l row)
+  unfolding levels maxLevels rowRefusal
   levels-within row z =
       joined-within (maxParts l) (levelParts l row) (places l)
-      (λ i h. (level-most l i e (counted i h) (rowValue l row i) (number-zero (λ j. valueNumber l j (rowValue l row j)) (places l) z i h), tt))
+      (λ i h. (
+        level-most l i e (counted i h) (rowValue l row i)
+            (refusal-zero (λ j. valueRefusal l j (rowValue l row j)) (places l) z i h),
+        tt,
+      ))

@@ -5,18 +5,18 @@ use mathlib.Core.Path.{_≡_, sym, ap, _∙_}
 use mathlib.Core.List.{List}
 use lib.ListN.{replicate}
 use Rattle.laws.specs.Outcome.{Outcome, accepted, refused}
-use Rattle.runs.specs.Log.{logOf}
+use Rattle.log.specs.Log.{logOf}
 use Rattle.pareto.specs.Call.{Call, Leaves}
 use Rattle.pareto.specs.Laws.Call.{refused-leaves, accepted-leaves, leaves-told}
-use Rattle.lines.specs.Lines.{headText}
+use Rattle.report_lines.specs.Lines.{headText}
 use Rattle.text.specs.Laws.Prints.{prints-then, prints-same}
 use Rattle.selection.specs.Selection.{outcomeOf, eitherCall}
 use Rattle.report.specs.Laws.Report.{refused-text, listed-text}
 use Rattle.report.proofs.put_selected.Statement.{statement}
 use Rattle.report.proofs.put_selected.Tie as tie
-use Rattle.lines.proofs.put_head.Reads as put-head-reads
-use Rattle.lines.proofs.put_lines.Reads as put-lines-reads
-use Rattle.lines.proofs.put_refused.Reads as put-refused-reads
+use Rattle.report_lines.proofs.put_head.Reads as put-head-reads
+use Rattle.report_lines.proofs.put_lines.Reads as put-lines-reads
+use Rattle.report_lines.proofs.put_refused.Reads as put-refused-reads
 use Rattle.selection.proofs.by_either.Reads as by-either-reads
 
 abbrev zeros : List ℕ

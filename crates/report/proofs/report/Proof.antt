@@ -4,8 +4,8 @@ use Prim.Native.Nat.{_-_}
 use borrow.Author.Needs.{needs}
 use Rattle.report.proofs.report.Statement.{statement}
 use Rattle.report.proofs.report.Tie as tie
-use Rattle.lines.proofs.put_refused.Reads as put-refused-reads
-use Rattle.reader.proofs.read.Reads as read-reads
+use Rattle.report_lines.proofs.put_refused.Reads as put-refused-reads
+use Rattle.stream_reader.proofs.read.Reads as read-reads
 use Rattle.report.proofs.put_selected.Reads as put-selected-reads
 use mathlib.Core.Path.{sym}
 use Rattle.selection.specs.Laws.Stream.{few-numbers, rows-fit, rows-long}

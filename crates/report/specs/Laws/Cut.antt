@@ -9,21 +9,21 @@ use lib.ListN.{length, take}
 use lib.Seq.{take-all}
 use borrow.Author.Tests.{ne-eqb}
 use Rattle.laws.specs.Laws.Checks.{then-first}
-use Rattle.format.specs.Read.{readOf}
-use Rattle.format.specs.Laws.Cut.{read-cut, cut-refused}
-use Rattle.format.specs.declared.ReadAnswer.{ReadAnswer}
-use Rattle.lines.specs.Lines.{refusedText}
+use Rattle.stream_format.specs.Read.{readOf}
+use Rattle.stream_format.specs.Laws.Cut.{read-cut, cut-refused}
+use Rattle.stream_format.specs.declared.ReadAnswer.{ReadAnswer}
+use Rattle.report_lines.specs.Lines.{refusedText}
 use Rattle.report.specs.Report.{textOf, reportOf}
 
 -- a stream that cannot be read is reported by its number
-refused-report : (s : List ℕ) → (readOf s 8192 .number ≡ 0 → ⊥) → reportOf s ≡ refusedText (readOf s 8192 .number)
+refused-report : (s : List ℕ) → (readOf s 8192 .refusal ≡ 0 → ⊥) → reportOf s ≡ refusedText (readOf s 8192 .refusal)
 unfolding reportOf textOf
-refused-report s h = rw (then-first (readOf s 8192 .number) _ h, ne-eqb (readOf s 8192 .number) 0 h)
+refused-report s h = rw (then-first (readOf s 8192 .refusal) _ h, ne-eqb (readOf s 8192 .refusal) 0 h)
 
 cut-longer : (n : ℕ) (s : List ℕ) → 34367 ≤ n → n ≤ length s → reportOf (take n s) ≡ reportOf s
 cut-longer n s late long =
-    let same : readOf (take n s) 8192 .number ≡ readOf s 8192 .number =
-    ap (λ (r : ReadAnswer). r .number) (read-cut s n late long 8192) in
+    let same : readOf (take n s) 8192 .refusal ≡ readOf s 8192 .refusal =
+    ap (λ (r : ReadAnswer). r .refusal) (read-cut s n late long 8192) in
     let refused = cut-refused s n late long 8192 in
     refused-report (take n s) refused ∙ ap refusedText same ∙ sym (refused-report s (λ z. refused (same ∙ z)))
 

@@ -12,7 +12,7 @@ use Rattle.laws.specs.Lists.{joined}
 use Rattle.laws.specs.Outcome.{accepted, refused}
 use Rattle.laws.specs.Laws.Checks.{then-first, then-next, then-none}
 use Rattle.laws.specs.Laws.Joined.{joined-cong}
-use Rattle.runs.specs.Log.{Log, logOf, rowCount}
+use Rattle.log.specs.Log.{Log, logOf, rowCount}
 use Rattle.preference.specs.declared.PreferenceList.{PreferenceList}
 use Rattle.pareto.specs.Best.{isBest, bestMatches, marksAfter}
 use Rattle.pareto.specs.Call.{Call, Leaves}
@@ -20,14 +20,14 @@ use Rattle.pareto.specs.Laws.Call.{refused-leaves, accepted-leaves}
 use Rattle.pareto.specs.Laws.Marks.{mark-there, marked-best}
 use Rattle.text.specs.Prints.{Prints}
 use Rattle.text.specs.Laws.Prints.{prints-whole, prints-same}
-use Rattle.lines.specs.Lines.{refusedText, headText, lineText, markedText}
-use Rattle.lines.specs.Laws.Lengths.{Values, refused-short, head-short, lines-short}
+use Rattle.report_lines.specs.Lines.{refusedText, headText, lineText, markedText}
+use Rattle.report_lines.specs.Laws.Lengths.{Values, refused-short, head-short, lines-short}
 use Rattle.word.specs.Laws.Word.{Bytes}
-use Rattle.lattice.specs.Engine.{latticeNumber}
-use Rattle.bnl.specs.Engine.{windowNumber}
-use Rattle.format.specs.Read.{readOf, logAfter}
-use Rattle.format.specs.declared.ReadAnswer.{ReadAnswer}
-use Rattle.selection.specs.Selection.{eitherNumber, eitherCall}
+use Rattle.lattice.specs.Engine.{latticeRefusal}
+use Rattle.window.specs.Engine.{windowRefusal}
+use Rattle.stream_format.specs.Read.{readOf, logAfter}
+use Rattle.stream_format.specs.declared.ReadAnswer.{ReadAnswer}
+use Rattle.selection.specs.Selection.{eitherRefusal, eitherCall}
 use Rattle.selection.specs.Stream.{listIn, logIn}
 use Rattle.selection.specs.Laws.Counted.{count-few}
 use Rattle.selection.specs.Laws.Engines.{lattice-few, window-few}
@@ -38,12 +38,12 @@ use Rattle.report.specs.Report.{linesText, textOf, reportCall, reportOf,
 -- ---- a selection's text
 
 -- an accepted call has at most 1,024 rows, and no more shortlisted ones
-pub rows-most : (l : PreferenceList) (log : Log) (marks : ℕ) → eitherNumber l log marks ≡ 0
+pub rows-most : (l : PreferenceList) (log : Log) (marks : ℕ) → eitherRefusal l log marks ≡ 0
     → rowCount (log .values) ≤ 1024
-unfolding eitherNumber
-rows-most l log marks e = by-engine (eqb (latticeNumber l log marks 32768 262144) 9) e
+unfolding eitherRefusal
+rows-most l log marks e = by-engine (eqb (latticeRefusal l log marks 32768 262144) 9) e
   where
-    by-engine : (t : Bool) → cond t (windowNumber l log marks 4096 64) (latticeNumber l log marks 32768 262144) ≡ 0
+    by-engine : (t : Bool) → cond t (windowRefusal l log marks 4096 64) (latticeRefusal l log marks 32768 262144) ≡ 0
         → rowCount (log .values) ≤ 1024
     by-engine true z = window-few l log marks 4096 64 z
     by-engine false z = lattice-few l log marks 32768 262144 z
@@ -66,17 +66,17 @@ marked-lines l log bytes =
     by-mark false x = refl
 
 module _ (c : Call) where
-  number-text : (c .number ≡ 0 → ⊥) → refusedText (c .number) ≡ textOf c
+  refusal-text : (c .refusal ≡ 0 → ⊥) → refusedText (c .refusal) ≡ textOf c
   unfolding textOf
-  number-text h = rw (ne-eqb (c .number) 0 h)
+  refusal-text h = rw (ne-eqb (c .refusal) 0 h)
 
   -- the text of an accepted call
   abbrev whole : List ℕ
   whole = headText (rowCount (c .log .values)) (c .value) ++ linesText (c .list) (c .log)
 
-  whole-text : c .number ≡ 0 → whole ≡ textOf c
+  whole-text : c .refusal ≡ 0 → whole ≡ textOf c
   unfolding textOf
-  whole-text h = rw (eq-eqb (c .number) 0 h)
+  whole-text h = rw (eq-eqb (c .refusal) 0 h)
 
   -- 20 bytes of head, and 29 for each of 1,024 rows
   whole-short : c .value ≡ length (bestMatches (c .list) (c .log)) → Values (c .log .values)
@@ -93,20 +93,20 @@ module _ (c : Call) where
         lines-short (c .log .values) f (isBest (c .list) (c .log)) n h,
       )
 
-  text-short : c .value ≡ length (bestMatches (c .list) (c .log)) → c .number < 4294967296 → Values (c .log .values)
-      → (c .number ≡ 0 → rowCount (c .log .values) ≤ 1024) → length (textOf c) ≤ 29716
-  text-short v h f few = by-number (eqb (c .number) 0) refl
+  text-short : c .value ≡ length (bestMatches (c .list) (c .log)) → c .refusal < 4294967296 → Values (c .log .values)
+      → (c .refusal ≡ 0 → rowCount (c .log .values) ≤ 1024) → length (textOf c) ≤ 29716
+  text-short v h f few = by-refusal (eqb (c .refusal) 0) refl
     where
-      by-number : (t : Bool) → eqb (c .number) 0 ≡ t → length (textOf c) ≤ 29716
-      by-number true e = let z = eqb-true (c .number) 0 e in rw (sym (whole-text z)) (whole-short v f (few z))
-      by-number false e =
-          rw (sym (number-text (eqb-false (c .number) 0 e))) (let q = refused-short (c .number) h in omega arith)
+      by-refusal : (t : Bool) → eqb (c .refusal) 0 ≡ t → length (textOf c) ≤ 29716
+      by-refusal true e = let z = eqb-true (c .refusal) 0 e in rw (sym (whole-text z)) (whole-short v f (few z))
+      by-refusal false e =
+          rw (sym (refusal-text (eqb-false (c .refusal) 0 e))) (let q = refused-short (c .refusal) h in omega arith)
 
   module _ (marks marks′ : List ℕ) where
     pub refused-text : (k : ℕ) → Leaves c marks (refused k) marks′ → refusedText k ≡ textOf c
     refused-text k a =
         let n = refused-leaves c marks k marks′ a in
-        ap refusedText (sym (n .0)) ∙ number-text (λ z. n .1 (sym (n .0) ∙ z))
+        ap refusedText (sym (n .0)) ∙ refusal-text (λ z. n .1 (sym (n .0) ∙ z))
 
     pub listed-text : (best : ℕ) → Leaves c marks (accepted best) marks′
         → headText (rowCount (c .log .values)) best
@@ -126,29 +126,29 @@ reported {out} {last} {end} {x} h p =
     let q = prints-whole out last 0 end x (omega arith) p in
     record { end-is = omega (arith, q .next-is); last-is = q .last-is; short = omega (arith, q .next-is) }
 
-few-rows : (s : List ℕ) → reportCall s .number ≡ 0 → rowCount (logIn s .values) ≤ 1024
-few-rows s e = rows-most (listIn s) (logIn s) 1024 (then-none (readOf s 8192 .number) _ e .1)
+few-rows : (s : List ℕ) → reportCall s .refusal ≡ 0 → rowCount (logIn s .values) ≤ 1024
+few-rows s e = rows-most (listIn s) (logIn s) 1024 (then-none (readOf s 8192 .refusal) _ e .1)
 
 -- the whole text of a stream of bytes, 32,768 of them at most
-pub report-short : (s : List ℕ) → Bytes s → reportCall s .number < 4294967296 → length (reportOf s) ≤ 29716
+pub report-short : (s : List ℕ) → Bytes s → reportCall s .refusal < 4294967296 → length (reportOf s) ≤ 29716
 unfolding reportOf
 report-short s b h = text-short (reportCall s) refl h (values-fit s b) (few-rows s)
 
 module _ (s : List ℕ) (r : ReadAnswer) (log : List ℤ) (a : r ≡ readOf s (length blank)) (f : log ≡ logAfter s blank)
     (b : Bytes s) where
-  pub unread-reports : {out last : List ℕ} {end : ℕ} → (r .number ≡ 0 → ⊥) → r .number < 4294967296
-      → Prints out last 0 end (refusedText (r .number)) → Reported out last end (reportOf s)
+  pub unread-reports : {out last : List ℕ} {end : ℕ} → (r .refusal ≡ 0 → ⊥) → r .refusal < 4294967296
+      → Prints out last 0 end (refusedText (r .refusal)) → Reported out last end (reportOf s)
   unfolding reportOf
   unread-reports z h p =
-      let n = ap (λ (y : ReadAnswer). y .number) (answer s r log a f) in
-      let k : reportCall s .number ≡ r .number =
-      then-first (readOf s 8192 .number) (eitherNumber (listIn s) (logIn s) 1024) (λ q. z (n ∙ q)) ∙ sym n in
-      let t : refusedText (r .number) ≡ reportOf s =
-      ap refusedText (sym k) ∙ number-text (reportCall s) (λ q. z (sym k ∙ q)) in
+      let n = ap (λ (y : ReadAnswer). y .refusal) (answer s r log a f) in
+      let k : reportCall s .refusal ≡ r .refusal =
+      then-first (readOf s 8192 .refusal) (eitherRefusal (listIn s) (logIn s) 1024) (λ q. z (n ∙ q)) ∙ sym n in
+      let t : refusedText (r .refusal) ≡ reportOf s =
+      ap refusedText (sym k) ∙ refusal-text (reportCall s) (λ q. z (sym k ∙ q)) in
       reported (report-short s b (omega arith)) (prints-same t p)
 
-  pub read-reports : {out last : List ℕ} {end : ℕ} → r .number ≡ 0
-      → eitherNumber (r .list) (logOf (take (8 * r .rows) log)) 1024 < 4294967296
+  pub read-reports : {out last : List ℕ} {end : ℕ} → r .refusal ≡ 0
+      → eitherRefusal (r .list) (logOf (take (8 * r .rows) log)) 1024 < 4294967296
       → Prints out last 0 end (textOf (eitherCall (r .list) (logOf (take (8 * r .rows) log)) 1024))
       → Reported out last end (reportOf s)
   unfolding reportOf textOf
@@ -156,9 +156,9 @@ module _ (s : List ℕ) (r : ReadAnswer) (log : List ℤ) (a : r ≡ readOf s (l
       let list : r .list ≡ listIn s = ap (λ (y : ReadAnswer). y .list) (answer s r log a f) in
       let rows = rows-are s r log a f z in
       let either = eitherCall (listIn s) (logIn s) 1024 in
-      let k : reportCall s .number ≡ either .number =
-      then-next (readOf s 8192 .number) (either .number) (none s r log a f z) in
-      let small : either .number < 4294967296 = rw (rows, list) at h in
+      let k : reportCall s .refusal ≡ either .refusal =
+      then-next (readOf s 8192 .refusal) (either .refusal) (none s r log a f z) in
+      let small : either .refusal < 4294967296 = rw (rows, list) at h in
       let t : textOf either ≡ reportOf s =
       ap (λ (i : ℕ). cond (eqb i 0) (whole either) (refusedText i)) (sym k) in
       reported (report-short s b (omega arith)) (prints-same t (rw (rows, list) at p))

@@ -8,11 +8,11 @@ use lib.ListN.{length, drop}
 use lib.Seq.{getD-drop}
 use Rattle.word.specs.Word.{intAt}
 use Rattle.word.specs.Laws.Word.{Bytes, int-fits}
-use Rattle.format.specs.Kinds.{classOf, bodyOf}
-use Rattle.format.specs.Read.{intsAt, valuesUnder, valuesFrom, valuesOf}
-use Rattle.format.specs.declared.Class.{Class}
-use Rattle.format.specs.declared.Class.the-variants.{Unknown, PreferenceRecord, NamedRecord, RunRecord}
-use Rattle.lines.specs.Laws.Lengths.{Values}
+use Rattle.stream_format.specs.Kinds.{classOf, bodyOf}
+use Rattle.stream_format.specs.Read.{intsAt, valuesUnder, valuesFrom, valuesOf}
+use Rattle.stream_format.specs.declared.Class.{Class}
+use Rattle.stream_format.specs.declared.Class.the-variants.{Unknown, PreferenceRecord, NamedRecord, RunRecord}
+use Rattle.report_lines.specs.Laws.Lengths.{Values}
 
 none-fit : Values []
 none-fit i = omega arith
@@ -28,7 +28,8 @@ both-fit (v ∷ a) b f g = more-fit v (a ++ b) (f 0) (both-fit a b (λ i. f (suc
 ints-fit : (n : ℕ) (bs : List ℕ) (at : ℕ) → Bytes bs → Values (intsAt n bs at)
 unfolding intsAt
 ints-fit zero bs at b = none-fit
-ints-fit (suc n) bs at b = more-fit (intAt bs at) (intsAt n bs (at + 4)) (int-fits bs at b .sfits) (ints-fit n bs (at + 4) b)
+ints-fit (suc n) bs at b =
+    more-fit (intAt bs at) (intsAt n bs (at + 4)) (int-fits bs at b .sfits) (ints-fit n bs (at + 4) b)
 
 under-fit : (class : Class) (bs : List ℕ) → Bytes bs → Values (valuesUnder class bs)
 under-fit Unknown bs b = none-fit

@@ -4,7 +4,7 @@ use mathlib.Core.Path.{_≡_, sym, ap, _∙_}
 use mathlib.Core.List.{List}
 use lib.ListN.{length}
 use Rattle.laws.specs.Outcome.{Outcome, accepted, refused}
-use Rattle.runs.specs.Log.{Log, logOf}
+use Rattle.log.specs.Log.{Log, logOf}
 use Rattle.pareto.specs.Call.{Call, counting, Leaves}
 use Rattle.pareto.specs.Laws.Call.{leaves-told}
 use Rattle.lattice.specs.Engine.{latticeCall}

@@ -4,7 +4,7 @@ use mathlib.Core.Path.{_≡_, sym, ap, _∙_}
 use mathlib.Core.List.{List}
 use lib.ListN.{length, replicate, length-replicate}
 use Rattle.laws.specs.Outcome.{accepted, refused}
-use Rattle.runs.specs.Log.{logOf, rowCount}
+use Rattle.log.specs.Log.{logOf, rowCount}
 use Rattle.pareto.specs.Call.{Call, Leaves}
 use Rattle.pareto.specs.Laws.Call.{accepted-leaves, leaves-told, accepted-counts, refused-counts}
 use Rattle.lattice.specs.Engine.{latticeCall, outcomeOf}

@@ -4,15 +4,15 @@ use mathlib.Core.Path.{_≡_, sym, ap, _∙_}
 use mathlib.Core.List.{List}
 use lib.ListN.{length, replicate, length-replicate}
 use Rattle.laws.specs.Outcome.{accepted, refused}
-use Rattle.runs.specs.Log.{logOf, rowCount}
+use Rattle.log.specs.Log.{logOf, rowCount}
 use Rattle.pareto.specs.Call.{Call, Leaves}
 use Rattle.pareto.specs.Laws.Call.{accepted-leaves, leaves-told, accepted-counts, refused-counts}
-use Rattle.bnl.specs.Engine.{windowCall, outcomeOf}
-use Rattle.bnl.specs.declared.WindowAnswer.the-variants.{Compared, Refused}
+use Rattle.window.specs.Engine.{windowCall, outcomeOf}
+use Rattle.window.specs.declared.WindowAnswer.the-variants.{Compared, Refused}
 use Rattle.selection.specs.Laws.Engines.{window-few, own-work}
 use Rattle.selection.proofs.by_window.Statement.{statement}
 use Rattle.selection.proofs.by_window.Tie as tie
-use Rattle.bnl.proofs.run.Reads as run-reads
+use Rattle.window.proofs.run.Reads as run-reads
 use Rattle.selection.proofs.count_marked.Reads as count-marked-reads
 
 -- the work list is 4,096 zeros

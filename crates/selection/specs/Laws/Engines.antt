@@ -7,35 +7,37 @@ use lib.ListN.{length}
 use borrow.Author.Tests.{eq-eqb, ne-eqb}
 use Rattle.laws.specs.Outcome.{Outcome, accepted, refused}
 use Rattle.laws.specs.Laws.Checks.{then-none}
-use Rattle.runs.specs.Log.{Log, rowCount, logNumber}
-use Rattle.runs.specs.Laws.Log as runs
-use Rattle.preference.specs.Valid.{listNumber}
+use Rattle.log.specs.Log.{Log, rowCount, logRefusal}
+use Rattle.log.specs.Laws.Log as runs
+use Rattle.preference.specs.Valid.{listRefusal}
 use Rattle.preference.specs.declared.PreferenceList.{PreferenceList}
 use Rattle.pareto.specs.Call.{counting, Leaves}
-use Rattle.pareto.specs.Checked.{marksNumber, checkedNumber}
+use Rattle.pareto.specs.Checked.{marksRefusal, checkedRefusal}
 use Rattle.pareto.specs.Laws.Call.{refused-leaves, accepted-leaves, accepted-counts, leaves-refused, leaves-accepted}
-use Rattle.lattice.specs.Engine.{latticeNumber, latticeCall}
-use Rattle.bnl.specs.Engine.{sizesNumber, windowNumber, windowCall}
-use Rattle.selection.specs.Selection.{eitherNumber, eitherCall}
+use Rattle.lattice.specs.Engine.{latticeRefusal, latticeCall}
+use Rattle.window.specs.Engine.{sizesRefusal, windowRefusal, windowCall}
+use Rattle.selection.specs.Selection.{eitherRefusal, eitherCall}
 
 -- ---- an accepted call has at most 1,024 rows
 
-checked-few : (l : PreferenceList) (log : Log) (more : ℕ) → checkedNumber l log more ≡ 0 → rowCount (log .values) ≤ 1024
-unfolding checkedNumber
+checked-few : (l : PreferenceList) (log : Log) (more : ℕ) → checkedRefusal l log more ≡ 0
+    → rowCount (log .values) ≤ 1024
+unfolding checkedRefusal
 checked-few l log more z =
-    runs.accepted (log .values) (then-none (logNumber (log .values)) _ (then-none (listNumber l) _ z .1) .0) .few
+    runs.accepted (log .values) (then-none (logRefusal (log .values)) _ (then-none (listRefusal l) _ z .1) .0) .few
 
-pub lattice-few : (l : PreferenceList) (log : Log) (marks nodes budget : ℕ) → latticeNumber l log marks nodes budget ≡ 0
+pub lattice-few : (l : PreferenceList) (log : Log) (marks nodes budget : ℕ)
+    → latticeRefusal l log marks nodes budget ≡ 0
     → rowCount (log .values) ≤ 1024
-unfolding latticeNumber
+unfolding latticeRefusal
 lattice-few l log marks nodes budget z =
-    checked-few l log (marksNumber (log .values) marks)
-    (then-none (checkedNumber l log (marksNumber (log .values) marks)) _ z .0)
+    checked-few l log (marksRefusal (log .values) marks)
+    (then-none (checkedRefusal l log (marksRefusal (log .values) marks)) _ z .0)
 
-pub window-few : (l : PreferenceList) (log : Log) (marks work w : ℕ) → windowNumber l log marks work w ≡ 0
+pub window-few : (l : PreferenceList) (log : Log) (marks work w : ℕ) → windowRefusal l log marks work w ≡ 0
     → rowCount (log .values) ≤ 1024
-unfolding windowNumber
-window-few l log marks work w z = checked-few l log (sizesNumber log marks work w) z
+unfolding windowRefusal
+window-few l log marks work w z = checked-few l log (sizesRefusal log marks work w) z
 
 -- ---- the engines' own buffers
 
@@ -53,12 +55,12 @@ module _ (l : PreferenceList) (log : Log) (marks marks′ : List ℕ) (answer : 
 
 module _ (l : PreferenceList) (log : Log) (marks marks′ : List ℕ) where
   abbrev first : ℕ
-  first = latticeNumber l log (length marks) 32768 262144
+  first = latticeRefusal l log (length marks) 32768 262144
 
   pub first-accepts : (n : ℕ)
       → Leaves (counting (latticeCall l log (length marks) 32768 262144)) marks (accepted n) marks′
       → Leaves (eitherCall l log (length marks)) marks (accepted n) marks′
-  unfolding eitherNumber
+  unfolding eitherRefusal
   first-accepts n a =
       let p = accepted-leaves (counting (latticeCall l log (length marks) 32768 262144)) marks n marks′ a in
       leaves-accepted (eitherCall l log (length marks)) marks n marks′
@@ -67,17 +69,17 @@ module _ (l : PreferenceList) (log : Log) (marks marks′ : List ℕ) where
   pub first-refuses : (k : ℕ) → (k ≡ 9 → ⊥)
       → Leaves (counting (latticeCall l log (length marks) 32768 262144)) marks (refused k) marks′
       → Leaves (eitherCall l log (length marks)) marks (refused k) marks′
-  unfolding eitherNumber
+  unfolding eitherRefusal
   first-refuses k h a =
       let p = refused-leaves (counting (latticeCall l log (length marks) 32768 262144)) marks k marks′ a in
-      let e : eitherNumber l log (length marks) ≡ k = rw (ne-eqb first 9 (λ e. h (sym (p .0) ∙ e))) (p .0) in
+      let e : eitherRefusal l log (length marks) ≡ k = rw (ne-eqb first 9 (λ e. h (sym (p .0) ∙ e))) (p .0) in
       rw (p .2) (leaves-refused (eitherCall l log (length marks)) marks k e (p .1))
 
   pub second-answers : (answer : Outcome ℕ) (marks″ : List ℕ)
       → Leaves (counting (latticeCall l log (length marks) 32768 262144)) marks (refused 9) marks′
       → Leaves (counting (windowCall l log (length marks′) 4096 64)) marks′ answer marks″
       → Leaves (eitherCall l log (length marks)) marks answer marks″
-  unfolding eitherNumber
+  unfolding eitherRefusal
   second-answers answer marks″ a b =
       let p = refused-leaves (counting (latticeCall l log (length marks) 32768 262144)) marks 9 marks′ a in
       rw (eq-eqb first 9 (p .0)) (rw (p .2) at b)

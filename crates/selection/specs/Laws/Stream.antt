@@ -9,15 +9,15 @@ use lib.IntN.{ℤ, pos}
 use lib.ListN.{length, take, replicate, length-replicate, length-take}
 use Rattle.laws.specs.Outcome.{Outcome, refused, outcome}
 use Rattle.laws.specs.Laws.Checks.{then-first, then-next}
-use Rattle.runs.specs.Log.{Log, logOf}
+use Rattle.log.specs.Log.{Log, logOf}
 use Rattle.preference.specs.declared.PreferenceList.{PreferenceList}
 use Rattle.pareto.specs.Best.{marksAfter}
 use Rattle.pareto.specs.Call.{Call, marksLeft, Leaves}
 use Rattle.pareto.specs.Laws.Call.{leaves-refused}
-use Rattle.format.specs.Read.{readOf, logAfter}
-use Rattle.format.specs.Laws.Accepted.{read-accepted}
-use Rattle.format.specs.Laws.Rows.{values-long, log-read}
-use Rattle.format.specs.declared.ReadAnswer.{ReadAnswer}
+use Rattle.stream_format.specs.Read.{readOf, logAfter}
+use Rattle.stream_format.specs.Laws.Accepted.{read-accepted}
+use Rattle.stream_format.specs.Laws.Rows.{values-long, log-read}
+use Rattle.stream_format.specs.declared.ReadAnswer.{ReadAnswer}
 use Rattle.selection.specs.Stream.{listIn, logIn, afterReading}
 
 -- the log that reading fills
@@ -33,9 +33,9 @@ module _ (s : List ℕ) (r : ReadAnswer) (log : List ℤ) (a : r ≡ readOf s (l
   pub answer : r ≡ readOf s 8192
   answer = rw blank-long at a
 
-  module _ (z : r .number ≡ 0) where
-    pub none : readOf s 8192 .number ≡ 0
-    none = sym (ap (λ (x : ReadAnswer). x .number) answer) ∙ z
+  module _ (z : r .refusal ≡ 0) where
+    pub none : readOf s 8192 .refusal ≡ 0
+    none = sym (ap (λ (x : ReadAnswer). x .refusal) answer) ∙ z
 
     pub few-numbers : 8 * r .rows ≤ 8192
     few-numbers =
@@ -57,19 +57,19 @@ module _ (s : List ℕ) (r : ReadAnswer) (log : List ℤ) (a : r ≡ readOf s (l
     due = call (listIn s) (logIn s)
 
     -- reading refuses the stream
-    pub unread-leaves : (r .number ≡ 0 → ⊥) → Leaves (afterReading s call) marks (refused (r .number)) marks
+    pub unread-leaves : (r .refusal ≡ 0 → ⊥) → Leaves (afterReading s call) marks (refused (r .refusal)) marks
     unread-leaves z =
-        let n = ap (λ (y : ReadAnswer). y .number) answer in
-        leaves-refused (afterReading s call) marks (r .number)
-        (then-first (readOf s 8192 .number) (due .number) (λ q. z (n ∙ q)) ∙ sym n) z
+        let n = ap (λ (y : ReadAnswer). y .refusal) answer in
+        leaves-refused (afterReading s call) marks (r .refusal)
+        (then-first (readOf s 8192 .refusal) (due .refusal) (λ q. z (n ∙ q)) ∙ sym n) z
 
     -- reading accepts it, and the call on what was read ends
-    pub read-leaves : (marks′ : List ℕ) (ends : Outcome ℕ) → r .number ≡ 0
+    pub read-leaves : (marks′ : List ℕ) (ends : Outcome ℕ) → r .refusal ≡ 0
         → Leaves (call (r .list) (logOf (take (8 * r .rows) log))) marks ends marks′
         → Leaves (afterReading s call) marks ends marks′
     unfolding marksLeft
     read-leaves marks′ ends z b =
-        let k = sym (then-next (readOf s 8192 .number) (due .number) (none z)) in
+        let k = sym (then-next (readOf s 8192 .refusal) (due .refusal) (none z)) in
         let a : Leaves due marks ends marks′ = rw (rows-are z, answer) at b in
         record {
           answer-is = a .answer-is ∙ ap (λ (j : ℕ). outcome j (due .value)) k;

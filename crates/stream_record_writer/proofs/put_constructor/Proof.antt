@@ -2,7 +2,7 @@ use Rattle.word.specs.Laws.Puts.{puts-byte, puts-then, puts-same}
 use Rattle.stream_record_writer.specs.Laws.Puts.{puts-int, puts-range}
 use mathlib.Core.Path.{sym, ap, refl}
 use Rattle.word.specs.Word.{wordBytes, intBytes}
-use Rattle.format.specs.Write.{constructorBytes}
+use Rattle.stream_format.specs.Write.{constructorBytes}
 use borrow.Author.Needs.{needs}
 use native.Mathlib.Omega.{arith}
 use Rattle.stream_record_writer.proofs.put_constructor.Statement.{statement}
@@ -124,7 +124,8 @@ returns-5 : tie.Need-returns-5
 returns-5 c =
     let p = c .before .before .before .before .before .before in
     let g = p .before .before .before .c5 .given in
-    puts-same (sym (ap constructorBytes (g .1))) (puts-then (puts-byte refl (p .put-u8 .ensures)) (puts-byte (omega arith) (c .before .before .put-u82 .ensures)))
+    puts-same (sym (ap constructorBytes (g .1)))
+    (puts-then (puts-byte refl (p .put-u8 .ensures)) (puts-byte (omega arith) (c .before .before .put-u82 .ensures)))
 
 pub put-constructor-spec : {M : Type 1} → statement M
 put-constructor-spec =

@@ -3,8 +3,8 @@ use mathlib.Core.Path.{refl}
 use lib.IntN.{pos}
 use lib.ListN.{getD, take, length-take, length}
 use lib.Seq.{take-all}
-use Rattle.format.specs.Write.{intsBytes}
-use Rattle.format.specs.Laws.Lengths.{ints-long}
+use Rattle.stream_format.specs.Write.{intsBytes}
+use Rattle.stream_format.specs.Laws.Lengths.{ints-long}
 use Rattle.word.specs.Puts.{Puts}
 use Rattle.word.specs.Laws.Puts.{puts-none, puts-then, puts-same, puts-length}
 use Rattle.stream_record_writer.specs.Laws.Puts.{puts-int, ints-turn}

@@ -1,5 +1,5 @@
 use mathlib.Core.Path.{refl}
-use Rattle.format.specs.Write.{namedBytes}
+use Rattle.stream_format.specs.Write.{namedBytes}
 use Rattle.word.specs.Laws.Puts.{puts-byte, puts-then}
 use Rattle.stream_record_writer.specs.Laws.Puts.{puts-int}
 use borrow.Author.Needs.{needs}
@@ -34,7 +34,9 @@ returns c =
     let p2 = c .before .before .before .before .before .before in
     let p1 = p2 .before .before .before .before .before in
     let e = p1 .before .before .before .args .e in
-    puts-then (puts-then (puts-byte refl (p1 .put-u8 .ensures)) (puts-int (e .value) (p2 .before .struct-told .given .1 .0 .1) (omega arith) (p2 .put-i32 .ensures))) (puts-byte (omega arith) (c .before .before .put-u82 .ensures))
+    puts-then
+    (puts-then (puts-byte refl (p1 .put-u8 .ensures)) (puts-int (e .value) (p2 .before .struct-told .given .1 .0 .1) (omega arith) (p2 .put-i32 .ensures)))
+    (puts-byte (omega arith) (c .before .before .put-u82 .ensures))
 
 pub put-named-spec : {M : Type 1} → statement M
 put-named-spec =

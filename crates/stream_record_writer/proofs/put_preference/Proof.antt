@@ -1,5 +1,5 @@
 use mathlib.Core.Path.{refl}
-use Rattle.format.specs.Write.{preferenceBytes}
+use Rattle.stream_format.specs.Write.{preferenceBytes}
 use Rattle.word.specs.Laws.Puts.{puts-byte, puts-then}
 use borrow.Author.Needs.{needs}
 use native.Mathlib.Omega.{arith}
@@ -34,7 +34,8 @@ returns c =
     let p1 = p2 .before .before .before .before in
     let p = p1 .before .before .before .before .args .p in
     let k = puts-byte refl (p1 .put-u8 .ensures) in
-    rw (← p1 .before .kind-for .ensures) (puts-then (puts-then k (puts-byte (omega arith) (p2 .put-u82 .ensures))) (c .before .before .put-constructor .ensures))
+    rw (← p1 .before .kind-for .ensures)
+    (puts-then (puts-then k (puts-byte (omega arith) (p2 .put-u82 .ensures))) (c .before .before .put-constructor .ensures))
 
 pub put-preference-spec : {M : Type 1} → statement M
 put-preference-spec =

@@ -34,7 +34,8 @@ returns c =
     let s = p1 .before .before .before in
     let a = s .args in
     let f = s .fits in
-    puts-then (puts-then (puts-int (a .lo) (f .lo .sfits) refl (p1 .put-i32 .ensures)) (puts-int (a .hi) (f .hi .sfits) (omega arith) (p2 .put-i322 .ensures))) (puts-word (a .step) (omega arith) (c .before .before .put-u32 .ensures))
+    puts-then (puts-then (puts-int (a .lo) (f .lo .sfits) refl (p1 .put-i32 .ensures)) (puts-int (a .hi) (f .hi .sfits) (omega arith) (p2 .put-i322 .ensures)))
+    (puts-word (a .step) (omega arith) (c .before .before .put-u32 .ensures))
 
 pub put-range-spec : {M : Type 1} → statement M
 put-range-spec =

@@ -1,5 +1,5 @@
 use mathlib.Core.Path.{refl}
-use Rattle.format.specs.Write.{runBytes}
+use Rattle.stream_format.specs.Write.{runBytes}
 use Rattle.word.specs.Laws.Puts.{puts-byte, puts-then}
 use borrow.Author.Needs.{needs}
 use Rattle.stream_record_writer.proofs.put_run.Statement.{statement}

@@ -11,13 +11,15 @@ use mir.Syntax.{w32}
 use mir.Val.{toZ, ofZ}
 use Rattle.arith.specs.Laws.Local.{num}
 use Rattle.word.specs.Word.{wordBytes, intBytes}
-use Rattle.format.specs.Write.{intsBytes}
+use Rattle.stream_format.specs.Write.{intsBytes}
 use Rattle.word.specs.Puts.{Puts}
 
 -- a signed number is held as its bits
-pub puts-int : (v : ℤ) {out last : List ℕ} {at next : ℕ} → mag v < 2147483648 → next ≡ at + 4 → last ≡ sets out at (intBytes (toZ w32 (ofZ w32 v))) → Puts out last at next (intBytes v)
+pub puts-int : (v : ℤ) {out last : List ℕ} {at next : ℕ} → mag v < 2147483648 → next ≡ at + 4
+    → last ≡ sets out at (intBytes (toZ w32 (ofZ w32 v))) → Puts out last at next (intBytes v)
 unfolding intBytes wordBytes
-puts-int v {out} {last} {at} f n e = record { next-is = n; last-is = e ∙ ap (λ (z : ℤ). sets out at (intBytes z)) (num v f) }
+puts-int v {out} {last} {at} f n e =
+    record { next-is = n; last-is = e ∙ ap (λ (z : ℤ). sets out at (intBytes z)) (num v f) }
 
 pub puts-range : (lo hi : ℤ) (step : ℕ) {out last : List ℕ} {at next : ℕ} → mag lo < 2147483648 → mag hi < 2147483648
     → Puts out last at next (intBytes (toZ w32 (ofZ w32 lo)) ++ intBytes (toZ w32 (ofZ w32 hi)) ++ wordBytes step)
@@ -30,7 +32,8 @@ unfolding intsBytes
 ints-append [] b = refl
 ints-append (v ∷ a) b = rw (ints-append a b) (sym (append-assoc (intBytes v) (intsBytes a) (intsBytes b)))
 
-pub ints-turn : (vs : List ℤ) (j : ℕ) → j < length vs → intsBytes (take j vs) ++ intBytes (getD vs j (pos 0)) ≡ intsBytes (take (j + 1) vs)
+pub ints-turn : (vs : List ℤ) (j : ℕ) → j < length vs
+    → intsBytes (take j vs) ++ intBytes (getD vs j (pos 0)) ≡ intsBytes (take (j + 1) vs)
 unfolding intsBytes
 ints-turn vs j h =
     let v = getD vs j (pos 0) in

@@ -24,7 +24,8 @@ enough zero zero n h i = refl
 enough zero (suc j) n h i = let e : n ≡ 0 = omega arith in rw e
 enough (suc k) zero n h i = let e : n ≡ 0 = omega arith in rw e
 enough (suc k) (suc j) n h i =
-    round-same (decimalBy k (n / 10)) (decimalBy j (n / 10)) n (λ b. enough k j (n / 10) (omega arith) (omega arith)) (ltb n 10) refl
+    round-same (decimalBy k (n / 10)) (decimalBy j (n / 10)) n (λ b. enough k j (n / 10) (omega arith) (omega arith))
+    (ltb n 10) refl
 
 pub decimal-one : (n : ℕ) → n < 10 → decimal n ≡ figure n ∷ []
 unfolding decimal decimalBy
@@ -35,14 +36,17 @@ pub decimal-more : (n : ℕ) → 10 ≤ n → decimal n ≡ decimal (n / 10) ++ 
 unfolding decimal decimalBy
 decimal-more zero h = let z : ⊥ = omega arith in absurd z
 decimal-more (suc n) h =
-    rw (le-ltb (suc n) 10 h) (ap (λ (x : List ℕ). x ++ figure (suc n % 10) ∷ []) (enough n (suc n / 10) (suc n / 10) (omega arith) (omega arith)))
+    rw (le-ltb (suc n) 10 h)
+    (ap (λ (x : List ℕ). x ++ figure (suc n % 10) ∷ [])
+    (enough n (suc n / 10) (suc n / 10) (omega arith) (omega arith)))
 
 -- k rounds and one are enough for a number below 10 ^ (k + 1)
 pub rounds-enough : (k n : ℕ) → n < 10 ^ suc k → decimalBy k n ≡ decimal n
 unfolding decimalBy
 rounds-enough zero n h = let e : n % 10 ≡ n = omega arith in rw e (sym (decimal-one n h))
 rounds-enough (suc k) n h =
-    round-same (decimalBy k (n / 10)) (decimal (n / 10)) n (λ b. rounds-enough k (n / 10) (let p = pow-suc 10 (suc k) in omega arith)) (ltb n 10) refl
+    round-same (decimalBy k (n / 10)) (decimal (n / 10)) n
+    (λ b. rounds-enough k (n / 10) (let p = pow-suc 10 (suc k) in omega arith)) (ltb n 10) refl
     ∙ last (ltb n 10) refl
   where
     last : (t : Bool) → ltb n 10 ≡ t → cond t (figure n ∷ []) (decimal (n / 10) ++ figure (n % 10) ∷ []) ≡ decimal n
@@ -55,7 +59,8 @@ unfolding decimalBy
 by-short zero n = omega arith
 by-short (suc k) n = go (decimalBy k (n / 10)) (by-short k (n / 10)) (ltb n 10)
   where
-    go : (x : List ℕ) → length x ≤ suc k → (t : Bool) → length (cond t (figure n ∷ []) (x ++ figure (n % 10) ∷ [])) ≤ suc (suc k)
+    go : (x : List ℕ) → length x ≤ suc k → (t : Bool)
+        → length (cond t (figure n ∷ []) (x ++ figure (n % 10) ∷ [])) ≤ suc (suc k)
     go x h true = omega arith
     go x h false = omega (arith, length-append x (figure (n % 10) ∷ []))
 
@@ -69,4 +74,5 @@ sign-short (negsuc n) = omega arith
 
 pub signed-short : (k : ℕ) (z : ℤ) → natAbs z < 10 ^ suc k → length (signed z) ≤ suc (suc k)
 unfolding signed
-signed-short k z h = omega (arith, length-append (sign z) (decimal (natAbs z)), sign-short z, decimal-short k (natAbs z) h)
+signed-short k z h =
+    omega (arith, length-append (sign z) (decimal (natAbs z)), sign-short z, decimal-short k (natAbs z) h)

@@ -31,7 +31,14 @@ of-bytes-requires c κs = tt
 
 returns : tie.Need-returns
 unfolding wordAt
-returns c = c .of-bytes .ensures ∙ rw (c .before .get-u84 .ensures, c .before .before .get-u83 .ensures, c .before .before .before .get-u82 .ensures, c .before .before .before .before .get-u8 .ensures)
+returns c =
+    c .of-bytes .ensures
+    ∙ rw (
+      c .before .get-u84 .ensures,
+      c .before .before .get-u83 .ensures,
+      c .before .before .before .get-u82 .ensures,
+      c .before .before .before .before .get-u8 .ensures,
+    )
 
 pub cut-u32-spec : {M : Type 1} → statement M
 cut-u32-spec =

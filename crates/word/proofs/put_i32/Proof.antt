@@ -24,7 +24,8 @@ unfolding intBytes
 returns c =
     let p = c .before .before .before .before .before .before in
     c .before .before .put-u32 .ensures
-    ∙ ap (λ (u : ℕ). sets (now (p .args .out)) (p .args .at) (wordBytes u)) (c .before .before .before .unsigned .ensures ∙ ap (ofZ w32) (toZ-ofZ w32 (p .args .v) (p .fits .v)))
+    ∙ ap (λ (u : ℕ). sets (now (p .args .out)) (p .args .at) (wordBytes u))
+    (c .before .before .before .unsigned .ensures ∙ ap (ofZ w32) (toZ-ofZ w32 (p .args .v) (p .fits .v)))
 
 pub put-i32-spec : {M : Type 1} → statement M
 put-i32-spec = tie.close (tie.spec unsigned-requires put-u32-requires same-length returns)

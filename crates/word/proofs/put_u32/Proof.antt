@@ -52,7 +52,15 @@ returns c =
     let e1 : at + 1 ≡ suc at = omega arith in
     let e2 : at + 2 ≡ suc (suc at) = omega arith in
     let e3 : at + 3 ≡ suc (suc (suc at)) = omega arith in
-    simp (c .before .before .put-u84 .ensures, c .before .before .before .before .before .before .put-u83 .ensures, p2 .put-u82 .ensures, p2 .before .before .before .before .put-u8 .ensures, e1, e2, e3)
+    simp (
+      c .before .before .put-u84 .ensures,
+      c .before .before .before .before .before .before .put-u83 .ensures,
+      p2 .put-u82 .ensures,
+      p2 .before .before .before .before .put-u8 .ensures,
+      e1,
+      e2,
+      e3,
+    )
 
 returns-2 : tie.Need-returns-2
 returns-2 c =

@@ -15,26 +15,33 @@ pub puts-none : (out : List ℕ) (at : ℕ) → Puts out out at at []
 puts-none out at = record { next-is = omega arith; last-is = refl }
 
 -- one figure, by the functions of `word`
-pub puts-byte : {out last : List ℕ} {at next b : ℕ} → next ≡ at + 1 → last ≡ set out at b → Puts out last at next (b ∷ [])
+pub puts-byte : {out last : List ℕ} {at next b : ℕ} → next ≡ at + 1 → last ≡ set out at b
+    → Puts out last at next (b ∷ [])
 puts-byte n e = record { next-is = n; last-is = e }
 
-pub puts-word : (u : ℕ) {out last : List ℕ} {at next : ℕ} → next ≡ at + 4 → last ≡ sets out at (wordBytes u) → Puts out last at next (wordBytes u)
+pub puts-word : (u : ℕ) {out last : List ℕ} {at next : ℕ} → next ≡ at + 4 → last ≡ sets out at (wordBytes u)
+    → Puts out last at next (wordBytes u)
 unfolding wordBytes
 puts-word u n e = record { next-is = n; last-is = e }
 
-pub puts-then : {out mid last : List ℕ} {at next end : ℕ} {x y : List ℕ} → Puts out mid at next x → Puts mid last next end y → Puts out last at end (x ++ y)
+pub puts-then : {out mid last : List ℕ} {at next end : ℕ} {x y : List ℕ} → Puts out mid at next x
+    → Puts mid last next end y → Puts out last at end (x ++ y)
 puts-then {out} {mid} {last} {at} {next} {end} {x} {y} p q =
     record {
       next-is = q .next-is ∙ omega (arith, p .next-is, length-append x y);
-      last-is = q .last-is ∙ ap (λ (k : ℕ). sets mid k y) (p .next-is) ∙ ap (λ (m : List ℕ). sets m (at + length x) y) (p .last-is) ∙ sym (sets-append out at x y);
+      last-is =
+          q .last-is ∙ ap (λ (k : ℕ). sets mid k y) (p .next-is)
+          ∙ ap (λ (m : List ℕ). sets m (at + length x) y) (p .last-is) ∙ sym (sets-append out at x y);
     }
 
 -- one turn of a loop
-pub puts-turn : (f : ℕ → List ℕ) (k : ℕ) {out mid last : List ℕ} {at next end : ℕ} → Puts out mid at next (joined f k) → Puts mid last next end (f k) → Puts out last at end (joined f (k + 1))
+pub puts-turn : (f : ℕ → List ℕ) (k : ℕ) {out mid last : List ℕ} {at next end : ℕ} → Puts out mid at next (joined f k)
+    → Puts mid last next end (f k) → Puts out last at end (joined f (k + 1))
 unfolding joined
 puts-turn f k p q = rw (add-one k) (puts-then p q)
 
-pub puts-same : {out last : List ℕ} {at next : ℕ} {x y : List ℕ} → x ≡ y → Puts out last at next x → Puts out last at next y
+pub puts-same : {out last : List ℕ} {at next : ℕ} {x y : List ℕ} → x ≡ y → Puts out last at next x
+    → Puts out last at next y
 puts-same e p = rw e at p
 
 -- stores keep the length

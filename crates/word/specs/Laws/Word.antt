@@ -34,7 +34,12 @@ int-of-bytes z rest f = ap (toZ w32) (word-of-bytes (ofZ w32 z) rest) ∙ toZ-of
 pub word-out : (s : List ℕ) (at : ℕ) → length s ≤ at → wordAt s at ≡ 0
 unfolding wordAt
 word-out s at h =
-    rw (List·getD-eq-default s 0 {n = at} h, List·getD-eq-default s 0 {n = at + 1} (omega arith), List·getD-eq-default s 0 {n = at + 2} (omega arith), List·getD-eq-default s 0 {n = at + 3} (omega arith))
+    rw (
+      List·getD-eq-default s 0 {n = at} h,
+      List·getD-eq-default s 0 {n = at + 1} (omega arith),
+      List·getD-eq-default s 0 {n = at + 2} (omega arith),
+      List·getD-eq-default s 0 {n = at + 3} (omega arith),
+    )
 
 -- ---- a list of bytes
 
@@ -53,12 +58,18 @@ bytes-of-four a b c d ha hb hc hd =
     let e3 : (c + 256 * d) % 256 ≡ c = omega arith in
     rw (e1, q1, e2, q2, e3, q3)
 
-pub four-at : (s : List ℕ) (at : ℕ) → at + 4 ≤ length s → take 4 (drop at s) ≡ getD s at 0 ∷ getD s (at + 1) 0 ∷ getD s (at + 2) 0 ∷ getD s (at + 3) 0 ∷ []
+pub four-at : (s : List ℕ) (at : ℕ) → at + 4 ≤ length s
+    → take 4 (drop at s) ≡ getD s at 0 ∷ getD s (at + 1) 0 ∷ getD s (at + 2) 0 ∷ getD s (at + 3) 0 ∷ []
 four-at s at h =
     let e1 : suc at ≡ at + 1 = omega arith in
     let e2 : suc (suc at) ≡ at + 2 = omega arith in
     let e3 : suc (suc (suc at)) ≡ at + 3 = omega arith in
-    rw (drop-cons s at 0 (omega arith), drop-cons s (suc at) 0 (omega arith), drop-cons s (suc (suc at)) 0 (omega arith), drop-cons s (suc (suc (suc at))) 0 (omega arith))
+    rw (
+      drop-cons s at 0 (omega arith),
+      drop-cons s (suc at) 0 (omega arith),
+      drop-cons s (suc (suc at)) 0 (omega arith),
+      drop-cons s (suc (suc (suc at))) 0 (omega arith),
+    )
     (rw (e3, e2, e1) refl)
 
 pub word-fits : (s : List ℕ) (at : ℕ) → Bytes s → Fits w32 (wordAt s at)
@@ -69,7 +80,8 @@ word-fits s at b = record { fits = omega (arith, b at, b (at + 1), b (at + 2), b
 pub word-bytes-at : (s : List ℕ) (at : ℕ) → at + 4 ≤ length s → Bytes s → wordBytes (wordAt s at) ≡ take 4 (drop at s)
 unfolding wordAt
 word-bytes-at s at h b =
-    bytes-of-four (getD s at 0) (getD s (at + 1) 0) (getD s (at + 2) 0) (getD s (at + 3) 0) (b at) (b (at + 1)) (b (at + 2)) (b (at + 3))
+    bytes-of-four (getD s at 0) (getD s (at + 1) 0) (getD s (at + 2) 0) (getD s (at + 3) 0) (b at) (b (at + 1))
+    (b (at + 2)) (b (at + 3))
     ∙ sym (four-at s at h)
 
 pub int-bytes-at : (s : List ℕ) (at : ℕ) → at + 4 ≤ length s → Bytes s → intBytes (intAt s at) ≡ take 4 (drop at s)

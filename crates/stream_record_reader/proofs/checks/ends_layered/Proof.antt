@@ -3,7 +3,7 @@ use mathlib.Core.Bool.{Bool, true, false, _&&_}
 use lib.Dec.{ltb}
 use Rattle.constructor.specs.Level.{layeringOf}
 use Rattle.constructor.specs.declared.Layering.{Layering}
-use Rattle.format.specs.Read.{isLayers, endsLayered}
+use Rattle.stream_format.specs.Read.{isLayers, endsLayered}
 use borrow.Author.Needs.{needs}
 use Rattle.stream_record_reader.proofs.checks.ends_layered.Statement.{statement}
 use Rattle.stream_record_reader.proofs.checks.ends_layered.Tie as tie
@@ -39,7 +39,9 @@ returns-2 : tie.Need-returns-2
 unfolding endsLayered
 returns-2 c =
     let l = c .before .before .before .before .before .args .list in
-    let e = sym (c .before .enum-told2 .given .1) ∙ c .before .before .before .layering-of .ensures ∙ ap layeringOf (c .before .before .before .before .last-constructor .ensures) in
+    let e =
+    sym (c .before .enum-told2 .given .1) ∙ c .before .before .before .layering-of .ensures
+    ∙ ap layeringOf (c .before .before .before .before .last-constructor .ensures) in
     layers (ltb 0 (l .count)) ∙ ap (λ (y : Layering). ltb 0 (l .count) && isLayers y) e
 
 pub ends-layered-spec : {M : Type 1} → statement M

@@ -1,8 +1,8 @@
 use mathlib.Core.Path.{sym, ap, _∙_}
 use mathlib.Core.Bool.{Bool, not, _||_}
 use lib.Dec.{ltb}
-use Rattle.format.specs.Read.{outOfPlace}
-use Rattle.format.specs.declared.Class.{Class}
+use Rattle.stream_format.specs.Read.{outOfPlace}
+use Rattle.stream_format.specs.declared.Class.{Class}
 use borrow.Author.Needs.{needs}
 use Rattle.stream_record_reader.proofs.checks.out_of_place.Statement.{statement}
 use Rattle.stream_record_reader.proofs.checks.out_of_place.Tie as tie

@@ -6,7 +6,7 @@ use Rattle.word.specs.Word.{intAt}
 use Rattle.arith.specs.Laws.Local.{num}
 use mathlib.Core.Path.{_∙_, _≡_}
 use denote.Ref.{now}
-use Rattle.format.specs.Read.{constructorOf}
+use Rattle.stream_format.specs.Read.{constructorOf}
 use Prim.Native.Nat.{ℕ}
 use Rattle.stream_record_reader.proofs.figures.constructor_of.Statement.{statement}
 use Rattle.stream_record_reader.proofs.figures.constructor_of.Tie as tie

@@ -1,7 +1,7 @@
 use mathlib.Core.Path.{sym, ap, _∙_}
 use denote.Ref.{now}
-use Rattle.format.specs.Read.{addPreference, listAfter}
-use Rattle.format.specs.declared.Class.{Class}
+use Rattle.stream_format.specs.Read.{addPreference, listAfter}
+use Rattle.stream_format.specs.declared.Class.{Class}
 use borrow.Author.Needs.{needs}
 use Rattle.stream_record_reader.proofs.figures.list_after.Statement.{statement}
 use Rattle.stream_record_reader.proofs.figures.list_after.Tie as tie

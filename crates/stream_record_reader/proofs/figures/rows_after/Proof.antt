@@ -1,6 +1,6 @@
 use mathlib.Core.Path.{sym, ap}
-use Rattle.format.specs.Read.{rowsAfter}
-use Rattle.format.specs.declared.Class.{Class}
+use Rattle.stream_format.specs.Read.{rowsAfter}
+use Rattle.stream_format.specs.declared.Class.{Class}
 use borrow.Author.Needs.{needs}
 use native.Mathlib.Omega.{arith}
 use Rattle.stream_record_reader.proofs.figures.rows_after.Statement.{statement}

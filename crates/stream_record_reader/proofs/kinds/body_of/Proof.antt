@@ -2,8 +2,8 @@ use mathlib.Core.Path.{_≡_, sym, ap, _∙_}
 use Prim.Native.Nat.{ℕ}
 use native.Mathlib.Omega.{arith}
 use denote.Ref.{now}
-use Rattle.format.specs.Kinds.{kinds, kindOf, kindByte}
-use Rattle.format.specs.declared.Kind.{Kind}
+use Rattle.stream_format.specs.Kinds.{kinds, kindOf, kindByte}
+use Rattle.stream_format.specs.declared.Kind.{Kind}
 use Rattle.stream_record_reader.proofs.Table.{thirteen, none-at-zero, none-past}
 use Rattle.stream_record_reader.proofs.kinds.body_of.Statement.{statement}
 use Rattle.stream_record_reader.proofs.kinds.body_of.Tie as tie
@@ -39,7 +39,8 @@ unfolding kindOf kinds
 returns-5 c = (sym (ap of-kind (c .match .keys5)) ∙ same (c .before), omega arith)
 
 returns-6 : tie.Need-returns-6
-returns-6 c = (sym (thirteen (c .before .before .before .get-u8 .result) (c .before .if1 .left) (c .if2 .taken)) ∙ same (c .before .before .before), omega arith)
+returns-6 c =
+    (sym (thirteen (c .before .before .before .get-u8 .result) (c .before .if1 .left) (c .if2 .taken)) ∙ same (c .before .before .before), omega arith)
 
 returns-7 : tie.Need-returns-7
 returns-7 c = (sym (ap (λ (x : Kind). x .body) (none-at-zero (c .before .before .get-u8 .result) (c .if1 .taken))) ∙ same (c .before .before), omega arith)
@@ -47,7 +48,8 @@ returns-7 c = (sym (ap (λ (x : Kind). x .body) (none-at-zero (c .before .before
 returns-8 : tie.Need-returns-8
 returns-8 c =
     let r = c .before .before .match .rest in
-    let past = none-past (c .before .before .before .get-u8 .result) (omega (arith, r .0 .0 .0 .0 .1, r .0 .0 .0 .1, r .0 .0 .1, r .0 .1, r .1, c .if2 .left)) in
+    let past =
+    none-past (c .before .before .before .get-u8 .result) (omega (arith, r .0 .0 .0 .0 .1, r .0 .0 .0 .1, r .0 .0 .1, r .0 .1, r .1, c .if2 .left)) in
     (sym (ap (λ (x : Kind). x .body) past) ∙ same (c .before .before .before), omega arith)
 
 pub body-of-spec : {M : Type 1} → statement M

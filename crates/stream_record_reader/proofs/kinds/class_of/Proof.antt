@@ -2,9 +2,9 @@ use mathlib.Core.Path.{_≡_, sym, ap, _∙_}
 use Prim.Native.Nat.{ℕ}
 use native.Mathlib.Omega.{arith}
 use denote.Ref.{now}
-use Rattle.format.specs.Kinds.{kinds, kindOf, kindByte}
-use Rattle.format.specs.declared.Class.{Class}
-use Rattle.format.specs.declared.Kind.{Kind}
+use Rattle.stream_format.specs.Kinds.{kinds, kindOf, kindByte}
+use Rattle.stream_format.specs.declared.Class.{Class}
+use Rattle.stream_format.specs.declared.Kind.{Kind}
 use Rattle.stream_record_reader.proofs.Table.{preferences, none-at-zero, none-past}
 use Rattle.stream_record_reader.proofs.kinds.class_of.Statement.{statement}
 use Rattle.stream_record_reader.proofs.kinds.class_of.Tie as tie
@@ -36,7 +36,8 @@ returns-4 c = sym (ap (λ (x : Kind). x .class) (none-at-zero (c .before .before
 returns-5 : tie.Need-returns-5
 returns-5 c =
     let r = c .before .before .match .rest in
-    sym (ap (λ (x : Kind). x .class) (none-past (c .before .before .before .get-u8 .result) (omega (arith, r .0 .1, r .1, c .if2 .left)))) ∙ same (c .before .before .before)
+    sym (ap (λ (x : Kind). x .class) (none-past (c .before .before .before .get-u8 .result) (omega (arith, r .0 .1, r .1, c .if2 .left))))
+    ∙ same (c .before .before .before)
 
 pub class-of-spec : {M : Type 1} → statement M
 class-of-spec =

@@ -3,11 +3,11 @@ use mathlib.Core.Path.{refl, sym, ap, _∙_, _≡_}
 use lib.Seq.{sets}
 use lib.IntN.{ℤ}
 use denote.Ref.{now}
-use Rattle.format.specs.Kinds.{classOf}
-use Rattle.format.specs.Read.{intsAt, valuesUnder}
-use Rattle.format.specs.Laws.Values.{values-held}
-use Rattle.format.specs.declared.Class.{Class}
-use Rattle.format.specs.declared.Class.the-variants.{RunRecord}
+use Rattle.stream_format.specs.Kinds.{classOf}
+use Rattle.stream_format.specs.Read.{intsAt, valuesUnder}
+use Rattle.stream_format.specs.Laws.Values.{values-counted}
+use Rattle.stream_format.specs.declared.Class.{Class}
+use Rattle.stream_format.specs.declared.Class.the-variants.{RunRecord}
 use borrow.Author.Needs.{needs}
 use native.Mathlib.Omega.{arith}
 use Prim.Native.Nat.{ℕ, _+_}
@@ -16,7 +16,8 @@ use Rattle.stream_record_reader.proofs.values.put_record.Statement.{sta
 use Rattle.stream_record_reader.proofs.values.put_record.Tie as tie
 
 -- a record of another class than a run stores nothing
-stays : (t : List ℕ) (log : List ℤ) (to : ℕ) (class : Class) → valuesUnder class t ≡ [] → classOf t ≡ class → (to ≡ to + length (valuesUnder (classOf t) t)) × (log ≡ sets log to (valuesUnder (classOf t) t))
+stays : (t : List ℕ) (log : List ℤ) (to : ℕ) (class : Class) → valuesUnder class t ≡ [] → classOf t ≡ class
+    → (to ≡ to + length (valuesUnder (classOf t) t)) × (log ≡ sets log to (valuesUnder (classOf t) t))
 stays t log to class n e =
     let v : valuesUnder (classOf t) t ≡ [] = ap (λ (x : Class). valuesUnder x t) e ∙ n in
     (rw v (omega arith), rw v)
@@ -45,19 +46,33 @@ enum-told-4 : tie.Need-enum-told-4
 enum-told-4 c = search needs
 
 put-run-requires : tie.Need-put-run-requires
-put-run-requires c κs = let b = c .before .before .before .before .before in (omega (arith, b .pre .0, run-long (c .before), values-held (now (b .args .t))), omega (arith, b .pre .1, run-long (c .before)))
+put-run-requires c κs =
+    let b =
+    c .before .before .before .before .before in (
+      omega (arith, b .pre .0, run-long (c .before), values-counted (now (b .args .t))),
+      omega (arith, b .pre .1, run-long (c .before)),
+    )
 
 add-result : tie.Need-add-result
 add-result c = omega (arith, c .before .before .before .before .before .before .before .pre .1, run-long (c .before .before .before))
 
 returns : tie.Need-returns
-returns c = let a = c .before .before .before .before .args in stays (now (a .t)) (now (a .log)) (a .to) _ refl (sym (c .before .before .class-of .ensures) ∙ c .enum-told .given .1)
+returns c =
+    let a =
+    c .before .before .before .before .args in
+    stays (now (a .t)) (now (a .log)) (a .to) _ refl (sym (c .before .before .class-of .ensures) ∙ c .enum-told .given .1)
 
 returns-2 : tie.Need-returns-2
-returns-2 c = let a = c .before .before .before .before .args in stays (now (a .t)) (now (a .log)) (a .to) _ refl (sym (c .before .before .class-of .ensures) ∙ c .enum-told2 .given .1)
+returns-2 c =
+    let a =
+    c .before .before .before .before .args in
+    stays (now (a .t)) (now (a .log)) (a .to) _ refl (sym (c .before .before .class-of .ensures) ∙ c .enum-told2 .given .1)
 
 returns-3 : tie.Need-returns-3
-returns-3 c = let a = c .before .before .before .before .args in stays (now (a .t)) (now (a .log)) (a .to) _ refl (sym (c .before .before .class-of .ensures) ∙ c .enum-told3 .given .1)
+returns-3 c =
+    let a =
+    c .before .before .before .before .args in
+    stays (now (a .t)) (now (a .log)) (a .to) _ refl (sym (c .before .before .class-of .ensures) ∙ c .enum-told3 .given .1)
 
 same-length : tie.Need-same-length
 same-length c = search needs
@@ -66,7 +81,9 @@ returns-4 : tie.Need-returns-4
 unfolding intsAt
 returns-4 c =
     let a = c .before .before .before .before .before .before .before .args in
-    let e = sym (ap (λ (x : Class). valuesUnder x (now (a .t))) (sym (c .before .before .before .before .before .class-of .ensures) ∙ c .before .before .before .enum-told4 .given .1)) in
+    let e =
+    sym (ap (λ (x : Class). valuesUnder x (now (a .t)))
+    (sym (c .before .before .before .before .before .class-of .ensures) ∙ c .before .before .before .enum-told4 .given .1)) in
     (ap (λ (v : List ℤ). a .to + length v) e, c .before .put-run .ensures ∙ ap (sets (now (a .log)) (a .to)) e)
 
 pub put-record-spec : {M : Type 1} → statement M

@@ -9,7 +9,7 @@ use mir.Val.{toZ, ofZ}
 use denote.Ref.{now}
 use Rattle.word.specs.Word.{intAt}
 use Rattle.arith.specs.Laws.Local.{num}
-use Rattle.format.specs.Read.{intsAt}
+use Rattle.stream_format.specs.Read.{intsAt}
 use borrow.Author.Needs.{needs}
 use native.Mathlib.Omega.{arith}
 use Rattle.stream_record_reader.proofs.values.put_run.Statement.{statement}
@@ -23,7 +23,8 @@ abbrev μ-loop : tie.MeasureT-loop
 μ-loop t log₀ to i₀ log i = 8 - i
 
 -- one value more
-next : (log : List ℤ) (to i : ℕ) (t : List ℕ) → i < 8 → sets (set log (to + i) (intAt t (1 + 4 * i))) (to + (i + 1)) (intsAt (8 - (i + 1)) t (1 + 4 * (i + 1))) ≡ sets log (to + i) (intsAt (8 - i) t (1 + 4 * i))
+next : (log : List ℤ) (to i : ℕ) (t : List ℕ) → i < 8
+    → sets (set log (to + i) (intAt t (1 + 4 * i))) (to + (i + 1)) (intsAt (8 - (i + 1)) t (1 + 4 * (i + 1))) ≡ sets log (to + i) (intsAt (8 - i) t (1 + 4 * i))
 unfolding intsAt
 next log to i t h =
     let e : 8 - i ≡ suc (8 - (i + 1)) = omega arith in

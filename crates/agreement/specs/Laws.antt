@@ -1,4 +1,0 @@
-pub mod After
-pub mod Counts
-pub mod Numbers
-pub mod Streams

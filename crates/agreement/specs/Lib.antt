@@ -1,6 +1,0 @@
-pub mod Calls
-pub mod Numbers
-pub mod Laws
-pub mod Demand1
-pub mod Demand2
-pub mod Demand3

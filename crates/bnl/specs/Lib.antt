@@ -1,2 +1,0 @@
-pub mod Engine
-pub mod Laws

@@ -1,0 +1,4 @@
+pub mod After
+pub mod Counts
+pub mod Refusals
+pub mod Streams

@@ -1,0 +1,13 @@
+pub mod Some
+pub mod Ids
+pub mod Edges
+pub mod Steps
+pub mod Alike
+pub mod Stretch
+pub mod FirstReached
+pub mod Blocks
+pub mod Whole
+pub mod Rows
+pub mod Walk
+pub mod Bound
+pub mod Budget

@@ -1,0 +1,107 @@
+// The walk of the lattice engine (000, 6.1), on weights and node bytes: upward over the edges that leave reached nodes,
+// a recursion over the parts that has `lattice_crossing` cross them.
+use lattice_crossing::Progress;
+ghost use mathlib.Core.Path.{_≡_};
+ghost use Prim.Native.Nat.{_≤_};
+ghost use lib.ListN.{length, getD};
+ghost use Rattle.lattice_nodes.specs.Steps.{trail};
+ghost use Rattle.lattice_crossing.specs.Progress.{Crosses};
+ghost use Rattle.lattice_walk.specs.Blocks.{Small, Rows};
+
+// Crosses the edges of a block whose first node is reached, so that all are: part by part.
+fn cross_whole(weights: &[usize], nodes: &mut [u8], made: u32, budget: u32) -> Progress
+    requires { ⌜ Small (now weights) (length (now nodes)) ⌝ }
+    requires { ⌜ (getD (now nodes) 0 0 ≡ 0 → ⊥) ⌝ }
+    requires { ⌜ made ≤ budget ⌝ }
+    ensures { λ r. ⌜ Crosses
+        (trail (now (weights .entry)) (now (nodes .entry)) (length (now (nodes .entry)))) made budget
+        (now (nodes .entry)) (now (nodes .exit)) (r .ok) (r .made) ⌝ }
+{
+    let mut span = nodes.len();
+    let mut i = 0;
+    let mut n = made;
+    while i < weights.len() {
+        let w = weights[i];
+        let p = lattice_crossing::cross_part(nodes, span, w, n, budget);
+        if !p.ok {
+            return p;
+        }
+        n = p.made;
+        span = w;
+        i += 1;
+    }
+    Progress { ok: true, made: n }
+}
+
+// Walks a block of rows, in which the node at f is the first that is reached.
+fn walk_rows(weights: &[usize], nodes: &mut [u8], f: usize, made: u32, budget: u32) -> Progress
+    requires { ⌜ Small (now weights) (length (now nodes)) ⌝ }
+    requires { ⌜ Rows (now weights) (now nodes) f ⌝ }
+    requires { ⌜ made ≤ budget ⌝ }
+    ensures { λ r. ⌜ Crosses
+        (trail (now (weights .entry)) (now (nodes .entry)) (length (now (nodes .entry)))) made budget
+        (now (nodes .entry)) (now (nodes .exit)) (r .ok) (r .made) ⌝ }
+{
+    let w = weights[0];
+    let mut a = f / w * w;
+    let mut n = made;
+    while a < nodes.len() {
+        let p = lattice_crossing::cross_row(nodes, a, w, n, budget);
+        if !p.ok {
+            return p;
+        }
+        n = p.made;
+        a += w;
+    }
+    Progress { ok: true, made: n }
+}
+
+// Walks a block over the parts with these weights: sub-block by sub-block of the parts after the first, each before the
+// edges from it are crossed. A block that is reached whole, a row and a block of rows are walked by stretches.
+fn walk_block(weights: &[usize], nodes: &mut [u8], made: u32, budget: u32) -> Progress
+    requires { ⌜ Small (now weights) (length (now nodes)) ⌝ }
+    requires { ⌜ made ≤ budget ⌝ }
+    ensures { λ r. ⌜ Crosses
+        (trail (now (weights .entry)) (now (nodes .entry)) (length (now (nodes .entry)))) made budget
+        (now (nodes .entry)) (now (nodes .exit)) (r .ok) (r .made) ⌝ }
+{
+    let f = lattice_crossing::first_reached(nodes);
+    if f == nodes.len() {
+        return Progress { ok: true, made };
+    }
+    if f == 0 {
+        return cross_whole(weights, nodes, made, budget);
+    }
+    let w = weights[0];
+    if w == 1 {
+        return lattice_crossing::cross_stretch(nodes, f + 1, nodes.len() - f - 1, made, budget);
+    }
+    if weights[1] == 1 {
+        return walk_rows(weights, nodes, f, made, budget);
+    }
+    let mut a = f / w * w;
+    let mut n = made;
+    while a < nodes.len() {
+        let end = a + w;
+        let p = walk_block(&weights[1..], &mut nodes[a..end], n, budget);
+        if !p.ok {
+            return p;
+        }
+        let s = lattice_crossing::cross_onward(nodes, a, w, p.made, budget);
+        if !s.ok {
+            return s;
+        }
+        n = s.made;
+        a = end;
+    }
+    Progress { ok: true, made: n }
+}
+
+// Walks all nodes.
+pub fn walk(weights: &[usize], nodes: &mut [u8], budget: u32) -> Progress
+    requires { ⌜ Small (now weights) (length (now nodes)) ⌝ }
+    ensures { λ r. ⌜ Crosses (trail (now (weights .entry)) (now (nodes .entry)) (length (now (nodes .entry)))) 0 budget
+        (now (nodes .entry)) (now (nodes .exit)) (r .ok) (r .made) ⌝ }
+{
+    walk_block(weights, nodes, 0, budget)
+}

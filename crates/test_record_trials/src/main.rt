@@ -1,0 +1,18 @@
+// Tries the reader and the writer on streams that were cut, changed byte by byte, or made to be refused, against
+// verdicts of a model written apart. The file stdout holds what document 01 says of the streams that are made to be
+// refused, and no difference elsewhere.
+mod cases;
+mod damage;
+mod places;
+mod streams;
+
+fn main() {
+    cases::table();
+    cases::places();
+    cases::records();
+    cases::counts();
+    cases::logs();
+    cases::longest();
+    damage::harbour();
+    damage::every();
+}

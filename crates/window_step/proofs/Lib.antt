@@ -1,0 +1,5 @@
+pub mod Packed
+pub mod Comparing
+pub mod Scanning
+pub mod Judging
+pub mod Releasing

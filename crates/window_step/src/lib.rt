@@ -1,0 +1,263 @@
+// One row of a level table read by the window machine, whose state is in a lent work list. Inside the window engine,
+// and no call open to others: `window_passes` meets what its calls require.
+ghost use mathlib.Core.Path.{_≡_};
+ghost use Prim.Native.Nat.{ℕ, _+_, _*_, _<_, _≤_};
+ghost use mathlib.Core.Bool.{Bool};
+ghost use lib.ListN.{getD, set, length};
+ghost use Rattle.limits.specs.Limits.{maxWindow, maxWork};
+ghost use Rattle.pareto.specs.Table.{compared};
+ghost use Rattle.window_machine.specs.Machine.{Entry};
+ghost use Rattle.window_machine.specs.Order.{Rising};
+ghost use Rattle.window_step.specs.Work.{tableDominates, entries, putEntry, Filtered, Released, Flags, Fronted};
+ghost use Rattle.window_step.specs.Work.{Scanned, Ready, Judged, Read};
+
+// ---- the lent lists: a place past the end reads as 0, and a store there does nothing
+
+pub fn word(work: &[u32], i: usize) -> u32
+    ensures { λ n. ⌜ n ≡ getD (now (work .entry)) i 0 ⌝ }
+{
+    if i < work.len() { work[i] } else { 0 }
+}
+
+fn store(work: &mut [u32], i: usize, n: u32)
+    ensures { λ _. ⌜ now (work .exit) ≡ set (now (work .entry)) i n ⌝ }
+{
+    if i < work.len() {
+        work[i] = n;
+    }
+}
+
+pub fn put_entry(work: &mut [u32], i: usize, row: u32, timestamp: u32)
+    requires { ⌜ i ≤ maxWork ⌝ }
+    ensures { λ _. ⌜ now (work .exit) ≡ putEntry (now (work .entry)) i row timestamp ⌝ }
+{
+    store(work, 2 * i, row);
+    store(work, 2 * i + 1, timestamp);
+}
+
+pub fn mark(marks: &mut [u8], row: usize)
+    ensures { λ _. ⌜ now (marks .exit) ≡ set (now (marks .entry)) row 1 ⌝ }
+{
+    word::put_u8(marks, row, 1);
+}
+
+// ---- reading one row
+
+// How many entries, the oldest first, are apart from a row: neither dominates the other. How the next one, if there is
+// one, and the row stand.
+pub struct Front {
+    pub at: usize,
+    pub relation: u8,
+}
+
+// Whether a row is dropped, from which entry on `remove` has to look, and how many compares told so.
+pub struct Verdict {
+    pub dropped: bool,
+    pub from: usize,
+    pub compares: usize,
+}
+
+// The row of an entry that the work list holds.
+fn entry_row(work: &[u32], at: usize) -> usize
+    requires { ⌜ (at ≤ maxWindow) × (2 * at < length (now work)) ⌝ }
+    ensures { λ r. ⌜ r ≡ getD (now (work .entry)) (2 * at) 0 ⌝ }
+{
+    work[2 * at] as usize
+}
+
+// How an entry of the window and a row stand; behind the last they are apart.
+fn entry_compared(table: &[u16], work: &[u32], at: usize, occupied: usize, row: u32) -> u8
+    requires { ⌜ (occupied ≤ maxWindow) × (2 * occupied ≤ length (now work)) ⌝ }
+    ensures { λ k. ⌜ (at < occupied → k ≡ compared (now (table .entry)) (getD (now (work .entry)) (2 * at) 0) row) ⌝ }
+{
+    if occupied <= at {
+        return pareto::INCOMPARABLE;
+    }
+    pareto::compare(table, entry_row(work, at), row as usize)
+}
+
+// Most entries are apart from a row: a short loop of its own passes them.
+fn apart(table: &[u16], work: &[u32], occupied: usize, row: u32) -> Front
+    requires { ⌜ (occupied ≤ maxWindow) × (2 * occupied ≤ length (now work)) ⌝ }
+    ensures { λ f. ⌜ Fronted (now (table .entry)) row (now (work .entry)) occupied f ⌝ }
+{
+    let mut left = occupied;
+    while 0 < left {
+        let at = occupied - left;
+        let lower = pareto::lower_levels(table, entry_row(work, at), row as usize);
+        if lower.first != lower.second {
+            return Front {
+                at,
+                relation: lower.relation,
+            };
+        }
+        left -= 1;
+    }
+    Front {
+        at: occupied,
+        relation: pareto::INCOMPARABLE,
+    }
+}
+
+// Compares a row with the window's entries, the oldest that is left first, until one dominates it. Behind the entries
+// that are apart, each compare is kept as a flag for `remove`.
+fn scan(table: &[u16], work: &[u32], occupied: usize, row: u32, flags: &mut [u8]) -> Verdict
+    requires { ⌜ (occupied ≤ maxWindow) × (2 * occupied ≤ length (now work)) × (occupied ≤ length (now flags)) ⌝ }
+    ensures { λ v. ⌜ Scanned (tableDominates (now (table .entry))) row (now (work .entry)) occupied
+        (now (flags .exit)) v ⌝ }
+{
+    let front = apart(table, work, occupied, row);
+    let from = front.at;
+    let mut at = from;
+    let mut relation = front.relation;
+    let mut dominates = false;
+    while at < occupied {
+        if relation == pareto::FIRST_DOMINATES {
+            return Verdict {
+                dropped: true,
+                from,
+                compares: at + 1,
+            };
+        }
+        dominates = dominates | (relation == pareto::SECOND_DOMINATES);
+        flags[at] = relation;
+        at += 1;
+        relation = entry_compared(table, work, at, occupied, row);
+    }
+    if dominates {
+        return Verdict {
+            dropped: false,
+            from,
+            compares: occupied,
+        };
+    }
+    Verdict {
+        dropped: false,
+        from: occupied,
+        compares: occupied,
+    }
+}
+
+// Removes the entries that the row dominates by their flags, from one entry on; how many stay comes back.
+fn remove(flags: &[u8], work: &mut [u32], from: usize, occupied: usize) -> usize
+    requires { ⌜ (occupied ≤ maxWindow) × (from ≤ occupied) × (occupied ≤ length (now flags))
+        × (2 * occupied ≤ length (now work)) ⌝ }
+    ensures { λ m. ⌜
+        ((p : Entry → Bool) → Flags p (now (work .entry)) from occupied (now (flags .entry))
+        → Filtered p (now (work .entry)) (now (work .exit)) occupied m) ⌝ }
+{
+    let mut i = from;
+    let mut m = from;
+    while i < occupied {
+        let row = word(work, 2 * i);
+        let timestamp = word(work, 2 * i + 1);
+        if flags[i] != pareto::SECOND_DOMINATES {
+            put_entry(work, m, row, timestamp);
+            m += 1;
+        }
+        i += 1;
+    }
+    m
+}
+
+// Releases the entries with a timestamp below s: their rows are marked. How many stay comes back. The first entry has
+// the smallest timestamp.
+fn release(work: &mut [u32], occupied: usize, s: u32, marks: &mut [u8]) -> usize
+    requires { ⌜ (occupied ≤ maxWindow) × (2 * occupied ≤ length (now work))
+        × Rising (entries (now work) 0 occupied) ⌝ }
+    ensures { λ m. ⌜ Released s (now (work .entry)) (now (work .exit)) occupied m (now (marks .entry))
+        (now (marks .exit)) ⌝ }
+{
+    if s <= word(work, 1) {
+        return occupied;
+    }
+    let mut i: usize = 0;
+    let mut m: usize = 0;
+    while i < occupied {
+        let row = word(work, 2 * i);
+        let timestamp = word(work, 2 * i + 1);
+        if timestamp < s {
+            mark(marks, row as usize);
+        } else {
+            put_entry(work, m, row, timestamp);
+            m += 1;
+        }
+        i += 1;
+    }
+    m
+}
+
+// Where the machine stands, beside its lists: entries in the window, entries set aside, the clock, the compares made.
+pub struct Standing {
+    pub occupied: usize,
+    pub overflow: usize,
+    pub clock: u32,
+    pub count: usize,
+}
+
+// Compares a row with the window, and drops it, enters it or sets it aside.
+fn judge(
+    table: &[u16],
+    w: usize,
+    work: &mut [u32],
+    flags: &mut [u8],
+    p: Standing,
+    row: u32,
+) -> Standing
+    requires { ⌜ Ready w (length (now work)) (length (now flags)) p ⌝ }
+    ensures { λ q. ⌜ Judged (tableDominates (now (table .entry))) w row (now (work .entry)) p (now (work .exit)) q ⌝ }
+{
+    let verdict = scan(table, work, p.occupied, row, flags);
+    let clock = p.clock + 1;
+    let count = p.count + verdict.compares;
+    let overflow = p.overflow;
+    if verdict.dropped {
+        return Standing {
+            occupied: p.occupied,
+            overflow,
+            clock,
+            count,
+        };
+    }
+    let occupied = remove(flags, work, verdict.from, p.occupied);
+    if occupied < w {
+        put_entry(work, occupied, row, clock);
+        return Standing {
+            occupied: occupied + 1,
+            overflow,
+            clock,
+            count,
+        };
+    }
+    put_entry(work, w + overflow, row, clock);
+    Standing {
+        occupied,
+        overflow: overflow + 1,
+        clock,
+        count,
+    }
+}
+
+pub fn read_row(
+    table: &[u16],
+    w: usize,
+    work: &mut [u32],
+    marks: &mut [u8],
+    flags: &mut [u8],
+    p: Standing,
+    row: u32,
+    timestamp: u32,
+) -> Standing
+    requires { ⌜ Ready w (length (now work)) (length (now flags)) p × Rising (entries (now work) 0 (p .occupied)) ⌝ }
+    ensures { λ q. ⌜ Read (tableDominates (now (table .entry))) w (record { row = row; timestamp = timestamp })
+        (now (work .entry)) (now (marks .entry)) p (now (work .exit)) (now (marks .exit)) q ⌝ }
+{
+    let occupied = release(work, p.occupied, timestamp, marks);
+    let q = Standing {
+        occupied,
+        overflow: p.overflow,
+        clock: p.clock,
+        count: p.count,
+    };
+    judge(table, w, work, flags, q, row)
+}
