@@ -10,11 +10,11 @@ ghost use Rattle.arith.specs.Ceil.{ceilDiv};
 pub fn signed_gap(a: i32, b: i32) -> u64
     ensures { λ r. ⌜ (r ≡ gap a b) × (r < u32End) ⌝ }
 {
-    let d = a as i64 - b as i64;
-    if d < 0 {
+    let difference = a as i64 - b as i64;
+    if difference < 0 {
         return 0;
     }
-    d as u64
+    difference as u64
 }
 
 // How far v lies outside low..up. At most one gap is above zero, or low is above up and their sum is that gap: 32 bits
@@ -33,11 +33,11 @@ pub fn ceil_div(d: u32, step: u32) -> u32
     if step == 0 {
         return 0;
     }
-    let q = d / step;
+    let quotient = d / step;
     if d % step == 0 {
-        return q;
+        return quotient;
     }
-    q + 1
+    quotient + 1
 }
 
 pub fn at_most(a: i32, b: i32) -> bool

@@ -73,13 +73,13 @@ pub fn of(list: PreferenceList, log: &[i32], row: u32) -> DominatorAnswer
     if refusal != 0 {
         return DominatorAnswer::Refused(refusal);
     }
-    let n = log::row_count(log);
+    let rows = log::row_count(log);
     let asked = row as usize;
-    if n <= asked {
+    if rows <= asked {
         return DominatorAnswer::Refused(12);
     }
     let first = first_of_log(list, log, asked);
-    if n <= first {
+    if rows <= first {
         return DominatorAnswer::Refused(13);
     }
     DominatorAnswer::Row(first as u32)

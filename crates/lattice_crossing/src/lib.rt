@@ -107,21 +107,24 @@ pub fn cross_part(nodes: &mut [u8], span: usize, w: usize, made: u32, budget: u3
     ensures { λ r. ⌜ Crosses (partEdges span w (length (now (nodes .entry)) / span)) made budget (now (nodes .entry))
         (now (nodes .exit)) (r .ok) (r .made) ⌝ }
 {
-    let d = span - w;
-    if d == 0 {
+    let edges = span - w;
+    if edges == 0 {
         return Progress { ok: true, made };
     }
     let mut y = 0;
-    let mut n = made;
+    let mut count = made;
     while y < nodes.len() {
-        let p = cross_stretch(nodes, y + w, d, n, budget);
-        if !p.ok {
-            return p;
+        let crossed = cross_stretch(nodes, y + w, edges, count, budget);
+        if !crossed.ok {
+            return crossed;
         }
-        n = p.made;
+        count = crossed.made;
         y += span;
     }
-    Progress { ok: true, made: n }
+    Progress {
+        ok: true,
+        made: count,
+    }
 }
 
 // ---- from one block to the next
@@ -143,10 +146,10 @@ fn count_reached(nodes: &[u8]) -> u32
     let mut n: u32 = 0;
     let mut i = 0;
     while i < nodes.len() {
-        n += one_if_reached(nodes[i]);
+        count += one_if_reached(nodes[i]);
         i += 1;
     }
-    n
+    count
 }
 
 // A node's byte once the edge to it from a node with the byte `from` is crossed, if that is reached.
@@ -223,13 +226,13 @@ pub fn cross_row(nodes: &mut [u8], a: usize, w: usize, made: u32, budget: u32) -
         return Progress { ok: true, made };
     }
     let from = a + f;
-    let d = w - f;
-    let p = cross_stretch(nodes, from + 1, d - 1, made, budget);
-    if !p.ok {
-        return p;
+    let ahead = w - f;
+    let crossed = cross_stretch(nodes, from + 1, ahead - 1, made, budget);
+    if !crossed.ok {
+        return crossed;
     }
     if nodes.len() <= end {
-        return p;
+        return crossed;
     }
-    cross_stretch(nodes, from + w, d, p.made, budget)
+    cross_stretch(nodes, from + w, ahead, crossed.made, budget)
 }

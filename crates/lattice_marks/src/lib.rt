@@ -67,11 +67,11 @@ pub fn settle(
 {
     word::clear(nodes);
     hold(ids, nodes);
-    let p = lattice_walk::walk(weights, nodes, budget);
-    if !p.ok {
+    let progress = lattice_walk::walk(weights, nodes, budget);
+    if !progress.ok {
         word::clear(nodes);
-        return p;
+        return progress;
     }
     write_marks(ids, nodes, marks);
-    p
+    progress
 }

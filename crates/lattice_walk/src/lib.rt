@@ -19,18 +19,21 @@ fn cross_whole(weights: &[usize], nodes: &mut [u8], made: u32, budget: u32) -> P
 {
     let mut span = nodes.len();
     let mut i = 0;
-    let mut n = made;
+    let mut count = made;
     while i < weights.len() {
-        let w = weights[i];
-        let p = lattice_crossing::cross_part(nodes, span, w, n, budget);
-        if !p.ok {
-            return p;
+        let weight = weights[i];
+        let crossed = lattice_crossing::cross_part(nodes, span, weight, count, budget);
+        if !crossed.ok {
+            return crossed;
         }
-        n = p.made;
-        span = w;
+        count = crossed.made;
+        span = weight;
         i += 1;
     }
-    Progress { ok: true, made: n }
+    Progress {
+        ok: true,
+        made: count,
+    }
 }
 
 // Walks a block of rows, in which the node at f is the first that is reached.
@@ -42,18 +45,21 @@ fn walk_rows(weights: &[usize], nodes: &mut [u8], f: usize, made: u32, budget: u
         (trail (now (weights .entry)) (now (nodes .entry)) (length (now (nodes .entry)))) made budget
         (now (nodes .entry)) (now (nodes .exit)) (r .ok) (r .made) ⌝ }
 {
-    let w = weights[0];
-    let mut a = f / w * w;
-    let mut n = made;
+    let weight = weights[0];
+    let mut a = f / weight * weight;
+    let mut count = made;
     while a < nodes.len() {
-        let p = lattice_crossing::cross_row(nodes, a, w, n, budget);
-        if !p.ok {
-            return p;
+        let crossed = lattice_crossing::cross_row(nodes, a, weight, count, budget);
+        if !crossed.ok {
+            return crossed;
         }
-        n = p.made;
-        a += w;
+        count = crossed.made;
+        a += weight;
     }
-    Progress { ok: true, made: n }
+    Progress {
+        ok: true,
+        made: count,
+    }
 }
 
 // Walks a block over the parts with these weights: sub-block by sub-block of the parts after the first, each before the
@@ -72,29 +78,32 @@ fn walk_block(weights: &[usize], nodes: &mut [u8], made: u32, budget: u32) -> Pr
     if f == 0 {
         return cross_whole(weights, nodes, made, budget);
     }
-    let w = weights[0];
-    if w == 1 {
+    let weight = weights[0];
+    if weight == 1 {
         return lattice_crossing::cross_stretch(nodes, f + 1, nodes.len() - f - 1, made, budget);
     }
     if weights[1] == 1 {
         return walk_rows(weights, nodes, f, made, budget);
     }
-    let mut a = f / w * w;
-    let mut n = made;
+    let mut a = f / weight * weight;
+    let mut count = made;
     while a < nodes.len() {
-        let end = a + w;
-        let p = walk_block(&weights[1..], &mut nodes[a..end], n, budget);
-        if !p.ok {
-            return p;
+        let end = a + weight;
+        let crossed = walk_block(&weights[1..], &mut nodes[a..end], count, budget);
+        if !crossed.ok {
+            return crossed;
         }
-        let s = lattice_crossing::cross_onward(nodes, a, w, p.made, budget);
-        if !s.ok {
-            return s;
+        let staged = lattice_crossing::cross_onward(nodes, a, weight, crossed.made, budget);
+        if !staged.ok {
+            return staged;
         }
-        n = s.made;
+        count = staged.made;
         a = end;
     }
-    Progress { ok: true, made: n }
+    Progress {
+        ok: true,
+        made: count,
+    }
 }
 
 // Walks all nodes.

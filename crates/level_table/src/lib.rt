@@ -36,20 +36,20 @@ fn rule_of(list: PreferenceList, k: usize) -> Rule
     }
     let at = levels::part_at(list, k);
     let place = at.place;
-    let p = list.preferences[place];
-    let column = p.column;
-    let c = p.constructor;
-    let t = constructor::target_of(c);
-    let low = t.low;
-    let up = t.up;
-    let s = constructor::scale_of(c);
-    let y = constructor::layering_of(c);
+    let preference = list.preferences[place];
+    let column = preference.column;
+    let form = preference.constructor;
+    let target = constructor::target_of(form);
+    let low = target.low;
+    let up = target.up;
+    let scale = constructor::scale_of(form);
+    let layering = constructor::layering_of(form);
     Rule {
         column: arith::wide(column),
         low: low,
         up: up,
-        step: s.step,
-        layering: y,
+        step: scale.step,
+        layering: layering,
     }
 }
 

@@ -47,22 +47,22 @@ fn place_after(m: usize, owner: usize, i: usize) -> usize
 pub fn names_of(list: PreferenceList, i: usize) -> Names
     ensures { λ r. ⌜ NamesOf list i r ⌝ }
 {
-    let n = counted_names(list);
+    let count = counted_names(list);
     let mut values = [0i32; limits::MAX_NAMED];
     let mut layers = [0u8; limits::MAX_NAMED];
     let mut m: usize = 0;
     let mut k: usize = 0;
-    while k < n {
-        let e = list.named[k];
-        let owner = e.preference;
-        let value = e.value;
-        values[m] = value;
-        layers[m] = e.layer;
-        m = place_after(m, arith::wide(owner), i);
+    while k < count {
+        let naming = list.named[k];
+        let owner = naming.preference;
+        let value = naming.value;
+        values[next] = value;
+        layers[next] = naming.layer;
+        next = place_after(next, arith::wide(owner), i);
         k += 1;
     }
     Names {
-        count: m,
+        count: next,
         values: values,
         layers: layers,
     }
@@ -191,11 +191,11 @@ pub fn parts(list: PreferenceList) -> usize
 pub fn part_at(list: PreferenceList, k: usize) -> PartAt
     ensures { λ r. ⌜ r ≡ partOf list k ⌝ }
 {
-    let n = counted_places(list);
-    if n <= k {
+    let count = counted_places(list);
+    if count <= k {
         return PartAt {
-            place: n,
-            half: k - n,
+            place: count,
+            half: k - count,
         };
     }
     PartAt { place: k, half: 0 }
@@ -239,9 +239,9 @@ fn run_refusal(p: Preference, row: &[i32]) -> u8
 pub fn row_refusal(list: PreferenceList, row: &[i32]) -> u8
     ensures { λ r. ⌜ r ≡ rowRefusal list (now (row .entry)) ⌝ }
 {
-    let n = counted_places(list);
+    let count = counted_places(list);
     let mut i: usize = 0;
-    while i < n {
+    while i < count {
         let p = list.preferences[i];
         let k = run_refusal(p, row);
         if k != 0 {

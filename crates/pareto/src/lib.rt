@@ -83,12 +83,12 @@ pub fn competing_rows(log: &[i32], rows: &mut [usize]) -> usize
     let mut r: usize = 0;
     while r < count {
         if row_competes(log, r) {
-            store_row(rows, n, r);
-            n += 1;
+            store_row(rows, found, r);
+            found += 1;
         }
         r += 1;
     }
-    n
+    found
 }
 
 // ---- two rows of a level table
@@ -155,15 +155,15 @@ pub fn lower_levels(table: &[u16], a: usize, b: usize) -> Lower
         × (r .second ≡ hasLower (now (table .entry)) b a)
         × (r .relation ≡ compared (now (table .entry)) a b) ⌝ }
 {
-    let n = table.len() / 8;
-    if n <= a {
+    let rows = table.len() / 8;
+    if rows <= a {
         return Lower {
             first: false,
             second: false,
             relation: EQUAL,
         };
     }
-    if n <= b {
+    if rows <= b {
         return Lower {
             first: false,
             second: false,

@@ -148,8 +148,8 @@ fn named_refusal(list: PreferenceList, k: usize) -> u8
     requires { ⌜ (list .count ≤ maxWishes) × (k < maxNamed) ⌝ }
     ensures { λ r. ⌜ r ≡ namedRefusal list k ⌝ }
 {
-    let e = list.named[k];
-    let owner = e.preference;
+    let naming = list.named[k];
+    let owner = naming.preference;
     let at = arith::wide(owner);
     let count = list.count as usize;
     if count <= at {
@@ -162,7 +162,7 @@ fn named_refusal(list: PreferenceList, k: usize) -> u8
     }
     let p = list.preferences[at];
     let c = p.constructor;
-    let layer = e.layer;
+    let layer = naming.layer;
     constructor::layer_refusal(c, layer)
 }
 

@@ -23,7 +23,7 @@ ghost use Rattle.stream_format.specs.Midway.{Columns, toRead, Midway};
 fn zero_list() -> PreferenceList
     ensures { λ r. ⌜ r ≡ zeroList ⌝ }
 {
-    let p = Preference {
+    let wish = Preference {
         column: 0,
         constructor: Constructor::Lowest {
             lo: 0,
@@ -31,16 +31,16 @@ fn zero_list() -> PreferenceList
             step: 0,
         },
     };
-    let e = Named {
+    let naming = Named {
         preference: 0,
         value: 0,
         layer: 0,
     };
     PreferenceList {
         count: 0,
-        preferences: [p; 8],
+        preferences: [wish; 8],
         namedcount: 0,
-        named: [e; limits::MAX_NAMED],
+        named: [naming; limits::MAX_NAMED],
     }
 }
 
@@ -65,15 +65,15 @@ fn step_on(s: &[u8], r: ReadAnswer) -> ReadAnswer
     ensures { λ a. ⌜ a ≡ step (now (s .entry)) r ⌝ }
 {
     let place = r.place;
-    let t = &s[place..];
-    let next = place + (1 + kinds::body_of(t));
-    let refusal = checks::record_refusal(r, t);
+    let rest = &s[place..];
+    let next = place + (1 + kinds::body_of(rest));
+    let refusal = checks::record_refusal(r, rest);
     if refusal != 0 {
         return refused_at(refusal, place);
     }
-    let class = kinds::class_of(t);
+    let class = kinds::class_of(rest);
     let rows = figures::rows_after(class, r.rows);
-    let list = figures::list_after(class, r.list, t);
+    let list = figures::list_after(class, r.list, rest);
     ReadAnswer {
         refusal: 0,
         place: next,
@@ -91,11 +91,11 @@ fn run_stands(s: &[u8], at: usize, rows: usize) -> bool
         (r ≡ true
         → (getD (now (s .entry)) at 0 ≡ 7) × (at + runRecord ≤ length (now (s .entry))) × (rows < maxRuns)) ⌝ }
 {
-    let n = s.len();
-    if n < RUN_RECORD {
+    let length = s.len();
+    if length < RUN_RECORD {
         return false;
     }
-    if n - RUN_RECORD < at {
+    if length - RUN_RECORD < at {
         return false;
     }
     (s[at] == 7) & (rows < limits::MAX_RUNS)

@@ -82,8 +82,8 @@ fn with_named(list: PreferenceList, t: &[u8]) -> PreferenceList
     requires { ⌜ (list .count ≤ maxWishes) × (list .namedcount < maxNamed) ⌝ }
     ensures { λ r. ⌜ r ≡ addNamed list (namedOf (list .count - 1) (now (t .entry))) ⌝ }
 {
-    let n = list.namedcount;
-    let i = n as usize;
+    let before = list.namedcount;
+    let i = before as usize;
     let owner = preference::place_before(list.count as usize) as u8;
     let value = word::get_i32(t, 1);
     let layer = word::get_u8(t, 5);
@@ -93,7 +93,7 @@ fn with_named(list: PreferenceList, t: &[u8]) -> PreferenceList
         value,
         layer,
     };
-    grown.namedcount = n + 1;
+    grown.namedcount = before + 1;
     grown
 }
 

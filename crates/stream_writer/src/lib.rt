@@ -20,12 +20,12 @@ fn put_named_of(out: &mut [u8], at: usize, list: PreferenceList, i: usize, k: us
     requires { ⌜ (at + namedRecord < usizeEnd) × (k < maxNamed) ⌝ }
     ensures { λ r. ⌜ Puts (now (out .entry)) (now (out .exit)) at r (namedBytesOf list i k) ⌝ }
 {
-    let e = list.named[k];
-    let owner = e.preference;
+    let naming = list.named[k];
+    let owner = naming.preference;
     if arith::wide(owner) != i {
         return at;
     }
-    stream_record_writer::put_named(out, at, e)
+    stream_record_writer::put_named(out, at, naming)
 }
 
 // The named values of the preference at place i.

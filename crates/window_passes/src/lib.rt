@@ -26,15 +26,15 @@ fn one_pass(
     ensures { λ q. ⌜ Passed (tableDominates (now (table .entry))) w n (now (work .entry)) (now (marks .entry)) p
         (now (work .exit)) (now (marks .exit)) q ⌝ }
 {
-    let mut q = p;
+    let mut standing = p;
     let mut i: usize = 0;
     while i < n {
         let row = window_step::word(work, 2 * (w + i));
         let timestamp = window_step::word(work, 2 * (w + i) + 1);
-        q = window_step::read_row(table, w, work, marks, flags, q, row, timestamp);
+        standing = window_step::read_row(table, w, work, marks, flags, standing, row, timestamp);
         i += 1;
     }
-    q
+    standing
 }
 
 // Releases the whole window.
@@ -63,7 +63,7 @@ fn all_passes(
     ensures { λ c. ⌜ PassesRan (tableDominates (now (table .entry))) w n fuel (now (work .entry)) (now (marks .entry))
         (now (marks .exit)) c ⌝ }
 {
-    let mut p = Standing {
+    let mut standing = Standing {
         occupied: 0,
         overflow: 0,
         clock: 0,
@@ -72,23 +72,23 @@ fn all_passes(
     let mut left = fuel;
     let mut waiting = n;
     while 0 < left {
-        let q = one_pass(table, w, waiting, work, marks, flags, p);
-        let occupied = q.occupied;
-        let overflow = q.overflow;
+        let passed = one_pass(table, w, waiting, work, marks, flags, standing);
+        let occupied = passed.occupied;
+        let overflow = passed.overflow;
         if overflow == 0 {
             release_all(work, occupied, marks);
-            return q.count;
+            return passed.count;
         }
         waiting = overflow;
-        p = Standing {
+        standing = Standing {
             occupied,
             overflow: 0,
-            clock: q.clock,
-            count: q.count,
+            clock: passed.clock,
+            count: passed.count,
         };
         left -= 1;
     }
-    p.count
+    standing.count
 }
 
 // ---- the machine on rows of a table

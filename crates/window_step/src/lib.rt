@@ -253,11 +253,11 @@ pub fn read_row(
         (now (work .entry)) (now (marks .entry)) p (now (work .exit)) (now (marks .exit)) q ⌝ }
 {
     let occupied = release(work, p.occupied, timestamp, marks);
-    let q = Standing {
+    let released = Standing {
         occupied,
         overflow: p.overflow,
         clock: p.clock,
         count: p.count,
     };
-    judge(table, w, work, flags, q, row)
+    judge(table, w, work, flags, released, row)
 }

@@ -50,11 +50,11 @@ fn cut_u32(s: &[u8], at: usize) -> u32
 pub fn get_u32(s: &[u8], at: usize) -> u32
     ensures { λ r. ⌜ r ≡ wordAt (now (s .entry)) at ⌝ }
 {
-    let n = s.len();
-    if n <= at {
+    let length = s.len();
+    if length <= at {
         return 0;
     }
-    if n - at < 4 {
+    if length - at < 4 {
         return cut_u32(s, at);
     }
     of_bytes(s[at], s[at + 1], s[at + 2], s[at + 3])

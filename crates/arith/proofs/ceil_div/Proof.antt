@@ -8,8 +8,8 @@ use Rattle.arith.proofs.ceil_div.Tie as tie
 returns : tie.Need-returns
 returns c = rw (c .if1 .taken) (sym (ceil-zero (c .before .args .d)))
 
-div-q : tie.Need-div-q
-div-q c = search needs
+div-quotient : tie.Need-div-quotient
+div-quotient c = search needs
 
 rem-if2 : tie.Need-rem-if2
 rem-if2 c = search needs
@@ -27,4 +27,4 @@ returns-3 : tie.Need-returns-3
 returns-3 c = sym (ceil-more (c .before .before .args .d) (c .before .before .args .step) (omega arith) (c .if2 .left))
 
 pub ceil-div-spec : {M : Type 1} → statement M
-ceil-div-spec = tie.close (tie.spec returns div-q rem-if2 returns-2 add-result returns-3)
+ceil-div-spec = tie.close (tie.spec returns div-quotient rem-if2 returns-2 add-result returns-3)

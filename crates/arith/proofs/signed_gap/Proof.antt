@@ -3,14 +3,14 @@ use Rattle.arith.proofs.Difference.{widened, back, diff-fits, diff-none
 use Rattle.arith.proofs.signed_gap.Statement.{statement}
 use Rattle.arith.proofs.signed_gap.Tie as tie
 
-cast-d : tie.Need-cast-d
-cast-d c = widened (c .args .a) (c .fits .a)
+cast-difference : tie.Need-cast-difference
+cast-difference c = widened (c .args .a) (c .fits .a)
 
-cast-d-2 : tie.Need-cast-d-2
-cast-d-2 c = widened (c .args .b) (c .fits .b)
+cast-difference-2 : tie.Need-cast-difference-2
+cast-difference-2 c = widened (c .args .b) (c .fits .b)
 
-sub-d : tie.Need-sub-d
-sub-d c = rw (back (c .args .a) (c .fits .a), back (c .args .b) (c .fits .b)) (diff-fits (c .args .a) (c .args .b) (c .fits .a) (c .fits .b))
+sub-difference : tie.Need-sub-difference
+sub-difference c = rw (back (c .args .a) (c .fits .a), back (c .args .b) (c .fits .b)) (diff-fits (c .args .a) (c .args .b) (c .fits .a) (c .fits .b))
 
 returns : tie.Need-returns
 returns c = (diff-none (c .before .args .a) (c .before .args .b) (c .before .fits .a) (c .before .fits .b) (c .if1 .taken), omega arith)
@@ -24,4 +24,4 @@ returns-2 c =
     (e, rw e (diff-small (c .before .args .a) (c .before .args .b) (c .before .fits .a) (c .before .fits .b)))
 
 pub signed-gap-spec : {M : Type 1} → statement M
-signed-gap-spec = tie.close (tie.spec cast-d cast-d-2 sub-d returns cast-result returns-2)
+signed-gap-spec = tie.close (tie.spec cast-difference cast-difference-2 sub-difference returns cast-result returns-2)

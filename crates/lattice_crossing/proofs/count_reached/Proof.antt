@@ -47,8 +47,8 @@ shared-slice-read-one-if-reached c = search needs
 one-if-reached-requires : tie.Need-one-if-reached-requires Inv-loop μ-loop
 one-if-reached-requires c κs = tt
 
-add-n : tie.Need-add-n Inv-loop μ-loop
-add-n c =
+add-count : tie.Need-add-count Inv-loop μ-loop
+add-count c =
     let l =
     c .before .before .before in
     omega (
@@ -85,7 +85,7 @@ count-reached-spec =
     loop-holds
     shared-slice-read-one-if-reached
     one-if-reached-requires
-    add-n
+    add-count
     add-i
     loop-less
     loop-again

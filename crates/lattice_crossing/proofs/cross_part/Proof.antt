@@ -88,8 +88,8 @@ fits t =
     let a =
     start (t .before) .args in ends (a .span) (a .w) (a .made) (a .budget) _ (start (t .before) .pre .0) _ _ _ (t .before .loop .inv) (t .loop-test .taken)
 
-sub-d : tie.Need-sub-d Inv-loop μ-loop
-sub-d c = omega (arith, c .before .pre .0 .low)
+sub-edges : tie.Need-sub-edges Inv-loop μ-loop
+sub-edges c = omega (arith, c .before .pre .0 .low)
 
 returns : tie.Need-returns Inv-loop μ-loop
 returns c = let s = c .before .before in rw (flat (s .args .span) (s .args .w) _ (c .if1 .taken)) (none-crossed _ _ _ (s .pre .1))
@@ -139,7 +139,7 @@ cross-part-spec =
     (tie.spec
     Inv-loop
     μ-loop
-    sub-d
+    sub-edges
     returns
     loop-holds
     add-cross-stretch

@@ -96,8 +96,8 @@ returns c = let k = c .before in rw (none _ _ _ _ (k .first-reached .ensures) (c
 add-from : tie.Need-add-from
 add-from c = let s = start (c .before) in omega (arith, below c, s .pre .0 .ends, s .pre .0 .few)
 
-sub-d : tie.Need-sub-d
-sub-d c = low (c .before)
+sub-ahead : tie.Need-sub-ahead
+sub-ahead c = low (c .before)
 
 add-cross-stretch : tie.Need-add-cross-stretch
 add-cross-stretch c = let e = c .before in let s = start (e .before) in omega (arith, below e, s .pre .0 .ends, s .pre .0 .few)
@@ -163,7 +163,7 @@ cross-row-spec =
     same-length
     returns
     add-from
-    sub-d
+    sub-ahead
     add-cross-stretch
     sub-cross-stretch
     cross-stretch-requires

@@ -127,8 +127,8 @@ module _ (t : ℕ) where
   returns-2 : lts.Need-returns-2 claims given reads.Post Inv-loop μ-loop
   returns-2 c = search needs
 
-  shared-slice-read-w : lts.Need-shared-slice-read-w claims given reads.Post Inv-loop μ-loop
-  shared-slice-read-w c = part-some (c .before)
+  shared-slice-read-weight : lts.Need-shared-slice-read-weight claims given reads.Post Inv-loop μ-loop
+  shared-slice-read-weight c = part-some (c .before)
 
   add-cross-stretch : lts.Need-add-cross-stretch claims given reads.Post Inv-loop μ-loop
   add-cross-stretch c = omega (arith, found-low (c .before .before .before))
@@ -271,7 +271,7 @@ pub +walk-block-spec : {M : Type 1} → statement M
     (cross-whole-requires t)
     (same-length-2 t)
     (returns-2 t)
-    (shared-slice-read-w t)
+    (shared-slice-read-weight t)
     (add-cross-stretch t)
     (sub-cross-stretch t)
     (sub-cross-stretch-2 t)

@@ -141,17 +141,17 @@ start l = l .before .before .before
 loop-holds : tie.Need-loop-holds Inv-loop μ-loop
 loop-holds c = let s = c .before .before in begin _ _ _ _ (s .pre .0 .lattice) (s .pre .1 .1)
 
-mul-w : tie.Need-mul-w Inv-loop μ-loop
-mul-w c = search needs
+mul-weight : tie.Need-mul-weight Inv-loop μ-loop
+mul-weight c = search needs
 
-shared-slice-read-w : tie.Need-shared-slice-read-w Inv-loop μ-loop
-shared-slice-read-w c = search needs
+shared-slice-read-weight : tie.Need-shared-slice-read-weight Inv-loop μ-loop
+shared-slice-read-weight c = search needs
 
 cross-part-requires : tie.Need-cross-part-requires Inv-loop μ-loop
 cross-part-requires c κs =
     let t =
     c .before .before in let l = t .before in (
-      split _ (start l .args .made) (start l .args .budget) _ _ _ _ (l .loop .n) (l .loop .inv) (t .loop-test .taken),
+      split _ (start l .args .made) (start l .args .budget) _ _ _ _ (l .loop .count) (l .loop .inv) (t .loop-test .taken),
       l .loop .inv .paid,
     )
 
@@ -190,8 +190,8 @@ cross-whole-spec =
     Inv-loop
     μ-loop
     loop-holds
-    mul-w
-    shared-slice-read-w
+    mul-weight
+    shared-slice-read-weight
     cross-part-requires
     same-length
     returns

@@ -37,8 +37,8 @@ ends-at t = let s = start (t .before) in ends _ (s .args .made) (s .args .budget
 abbrev turn : tie.After-cross-row Inv-loop μ-loop → tie.In-loop Inv-loop μ-loop
 turn k = k .before .before
 
-shared-slice-read-w : tie.Need-shared-slice-read-w Inv-loop μ-loop
-shared-slice-read-w c = part-some (c .before .before .before)
+shared-slice-read-weight : tie.Need-shared-slice-read-weight Inv-loop μ-loop
+shared-slice-read-weight c = part-some (c .before .before .before)
 
 div-a : tie.Need-div-a Inv-loop μ-loop
 div-a c = weight-some (c .before .before .before)
@@ -95,7 +95,7 @@ walk-rows-spec =
     (tie.spec
     Inv-loop
     μ-loop
-    shared-slice-read-w
+    shared-slice-read-weight
     div-a
     mul-a
     loop-holds

@@ -28,11 +28,11 @@ returns c = rw (le-leb _ _ (rw (c .before .parts .ensures) at (c .if1 .taken)))
 part-at-requires : tie.Need-part-at-requires
 part-at-requires c κs = search needs
 
-mul-p : tie.Need-mul-p
-mul-p c = omega (arith, inside c)
+mul-preference : tie.Need-mul-preference
+mul-preference c = omega (arith, inside c)
 
-element-copy-out-p : tie.Need-element-copy-out-p
-element-copy-out-p c = omega (arith, inside c)
+element-copy-out-preference : tie.Need-element-copy-out-preference
+element-copy-out-preference c = omega (arith, inside c)
 
 target-of-requires : tie.Need-target-of-requires
 target-of-requires c κs = search needs
@@ -70,8 +70,8 @@ rule-of-spec =
     parts-requires
     returns
     part-at-requires
-    mul-p
-    element-copy-out-p
+    mul-preference
+    element-copy-out-preference
     target-of-requires
     scale-of-requires
     layering-of-requires

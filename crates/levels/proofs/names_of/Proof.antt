@@ -22,11 +22,11 @@ counted-names-requires c κs = search needs
 loop-holds : tie.Need-loop-holds Inv-loop μ-loop
 loop-holds c = (search needs, search needs, refl, refl, gathered-none _ _ _ _)
 
-mul-e : tie.Need-mul-e Inv-loop μ-loop
-mul-e c = search needs
+mul-naming : tie.Need-mul-naming Inv-loop μ-loop
+mul-naming c = search needs
 
-element-copy-out-e : tie.Need-element-copy-out-e Inv-loop μ-loop
-element-copy-out-e c = search needs
+element-copy-out-naming : tie.Need-element-copy-out-naming Inv-loop μ-loop
+element-copy-out-naming c = search needs
 
 mul-values : tie.Need-mul-values Inv-loop μ-loop
 mul-values c = search needs
@@ -54,7 +54,7 @@ loop-again c =
     let d = c .before .before .before .before .before in
     let a = d .before .before .args in
     let v = c .before .before .struct-told .given in
-    let m = d .loop .m in
+    let m = d .loop .next in
     let f : m < 64 = omega (arith, d .loop .inv .4 .few) in
     let p : m < length (d .loop .values) = omega arith in
     let q : m < length (d .loop .layers) = omega arith in (
@@ -71,7 +71,7 @@ unfolding layerOf
 returns c =
     let d = c .before in
     let e : d .loop .k ≡ d .before .counted-names .result = omega arith in
-    let m : min (d .loop .m) (min (length (d .loop .values)) (length (d .loop .layers))) ≡ d .loop .m = omega (arith, d .loop .inv .4 .few) in
+    let m : min (d .loop .next) (min (length (d .loop .values)) (length (d .loop .layers))) ≡ d .loop .next = omega (arith, d .loop .inv .4 .few) in
     record { layer = λ v others. rw (m, ← d .before .counted-names .ensures, ← e) (d .loop .inv .4 .layer v others) }
 
 pub names-of-spec : {M : Type 1} → statement M
@@ -82,8 +82,8 @@ names-of-spec =
     μ-loop
     counted-names-requires
     loop-holds
-    mul-e
-    element-copy-out-e
+    mul-naming
+    element-copy-out-naming
     mul-values
     array-set-from-values
     array-write-layers

@@ -30,8 +30,8 @@ row-competes-requires c κs = search needs
 store-row-requires : tie.Need-store-row-requires Inv-loop μ-loop
 store-row-requires c κs = search needs
 
-add-n : tie.Need-add-n Inv-loop μ-loop
-add-n c = search needs
+add-found : tie.Need-add-found Inv-loop μ-loop
+add-found c = search needs
 
 add-r : tie.Need-add-r Inv-loop μ-loop
 add-r c = search needs
@@ -47,8 +47,8 @@ loop-again c =
       omega arith,
       ⊎-elim
           (λ w. rw (w .5 ∙ w .2 .ensures, w .6)
-          (listed-one (competes (logOf (a .log .now))) (a .rows .now) (l .r) (l .n) (l .rows) (l .inv .1) (e ∙ w .0 .taken)))
-          (λ w. rw (w .1, w .2) (listed-other (competes (logOf (a .log .now))) (a .rows .now) (l .r) (l .n) (l .rows) (l .inv .1) (e ∙ w .0 .left)))
+          (listed-one (competes (logOf (a .log .now))) (a .rows .now) (l .r) (l .found) (l .rows) (l .inv .1) (e ∙ w .0 .taken)))
+          (λ w. rw (w .1, w .2) (listed-other (competes (logOf (a .log .now))) (a .rows .now) (l .r) (l .found) (l .rows) (l .inv .1) (e ∙ w .0 .left)))
           (c .if1 .came),
     )
 
@@ -76,7 +76,7 @@ competing-rows-spec =
     loop-holds
     row-competes-requires
     store-row-requires
-    add-n
+    add-found
     add-r
     loop-less
     loop-again

@@ -6,11 +6,11 @@ use Prim.Native.Nat.{_-_}
 use Rattle.preference.proofs.named_refusal.Statement.{statement}
 use Rattle.preference.proofs.named_refusal.Tie as tie
 
-mul-e : tie.Need-mul-e
-mul-e c = search needs
+mul-naming : tie.Need-mul-naming
+mul-naming c = search needs
 
-element-copy-out-e : tie.Need-element-copy-out-e
-element-copy-out-e c = search needs
+element-copy-out-naming : tie.Need-element-copy-out-naming
+element-copy-out-naming c = search needs
 
 wide-requires : tie.Need-wide-requires
 wide-requires c κs = search needs
@@ -58,8 +58,8 @@ pub named-refusal-spec : {M : Type 1} → statement M
 named-refusal-spec =
     tie.close
     (tie.spec
-    mul-e
-    element-copy-out-e
+    mul-naming
+    element-copy-out-naming
     wide-requires
     cast-count
     returns

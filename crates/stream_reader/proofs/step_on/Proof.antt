@@ -34,14 +34,14 @@ accepted c = let b = c .before .before .before .before .before in accepts (b .ar
 class-is : (c : tie.After-class-of) → c .class-of .result ≡ classOf (bytes (c .before .before .before .before .before .before))
 class-is c = c .class-of .ensures ∙ ap classOf (same (c .before .before .before .before .before .before))
 
-sub-t : tie.Need-sub-t
-sub-t c = omega (arith, within (c .before))
+sub-rest : tie.Need-sub-rest
+sub-rest c = omega (arith, within (c .before))
 
-part-t-start : tie.Need-part-t-start
-part-t-start c = omega (arith, within (c .before))
+part-rest-start : tie.Need-part-rest-start
+part-rest-start c = omega (arith, within (c .before))
 
-part-t-end : tie.Need-part-t-end
-part-t-end c = omega (arith, within (c .before))
+part-rest-end : tie.Need-part-rest-end
+part-rest-end c = omega (arith, within (c .before))
 
 body-of-requires : tie.Need-body-of-requires
 body-of-requires c κs = tt
@@ -108,9 +108,9 @@ pub step-on-spec : {M : Type 1} → statement M
 step-on-spec =
     tie.close
     (tie.spec
-    sub-t
-    part-t-start
-    part-t-end
+    sub-rest
+    part-rest-start
+    part-rest-end
     body-of-requires
     add-next
     add-next-2

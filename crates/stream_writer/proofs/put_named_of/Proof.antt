@@ -6,11 +6,11 @@ use borrow.Author.Needs.{needs}
 use Rattle.stream_writer.proofs.put_named_of.Statement.{statement}
 use Rattle.stream_writer.proofs.put_named_of.Tie as tie
 
-mul-e : tie.Need-mul-e
-mul-e c = search needs
+mul-naming : tie.Need-mul-naming
+mul-naming c = search needs
 
-element-copy-out-e : tie.Need-element-copy-out-e
-element-copy-out-e c = search needs
+element-copy-out-naming : tie.Need-element-copy-out-naming
+element-copy-out-naming c = search needs
 
 wide-requires : tie.Need-wide-requires
 wide-requires c κs = search needs
@@ -36,8 +36,8 @@ pub put-named-of-spec : {M : Type 1} → statement M
 put-named-of-spec =
     tie.close
     (tie.spec
-    mul-e
-    element-copy-out-e
+    mul-naming
+    element-copy-out-naming
     wide-requires
     returns
     put-named-requires
