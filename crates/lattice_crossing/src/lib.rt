@@ -143,7 +143,7 @@ fn count_reached(nodes: &[u8]) -> u32
     requires { ⌜ length (now nodes) ≤ maxNodes ⌝ }
     ensures { λ r. ⌜ ((w : ℕ) → r ≡ length (stageEdges w (now (nodes .entry)) (length (now (nodes .entry))))) ⌝ }
 {
-    let mut n: u32 = 0;
+    let mut count: u32 = 0;
     let mut i = 0;
     while i < nodes.len() {
         count += one_if_reached(nodes[i]);

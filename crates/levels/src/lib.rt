@@ -50,7 +50,7 @@ pub fn names_of(list: PreferenceList, i: usize) -> Names
     let count = counted_names(list);
     let mut values = [0i32; limits::MAX_NAMED];
     let mut layers = [0u8; limits::MAX_NAMED];
-    let mut m: usize = 0;
+    let mut next: usize = 0;
     let mut k: usize = 0;
     while k < count {
         let naming = list.named[k];

@@ -79,7 +79,7 @@ pub fn competing_rows(log: &[i32], rows: &mut [usize]) -> usize
         × (now (rows .exit) ≡ sets (now (rows .entry)) 0 (competing (logOf (now (log .entry))))) ⌝ }
 {
     let count = log::row_count(log);
-    let mut n: usize = 0;
+    let mut found: usize = 0;
     let mut r: usize = 0;
     while r < count {
         if row_competes(log, r) {
