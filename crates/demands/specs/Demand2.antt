@@ -1,6 +1,7 @@
 -- Demand 2: "The runs named are exactly the best matches of the Pareto preference .., as documents 000 and 003 define
 -- it". A BestMatch is a row in the sense of 000, Def. 15 and Def. 19; that the levels are the papers' is constructor,
--- Laws/Papers.antt and Laws/Greatest.antt. "Reading and writing the records undo each other": roundtrip, Theorems.antt.
+-- Laws/Papers.antt and Laws/Greatest.antt. "Reading and writing the records undo each other": stream_roundtrip,
+-- Theorems.antt.
 use mathlib.Core.Path.{_≡_, refl}
 use Prim.Native.Nat.{ℕ, _<_}
 use mathlib.Core.Bool.{true}

@@ -53,7 +53,7 @@ maxWork = 2 * (maxRuns + maxWindow)
 abbrev pub programWindow : ℕ
 programWindow = 64
 
--- how many bytes the longest accepted stream has (roundtrip/specs/Theorems.antt)
+-- how many bytes the longest accepted stream has (stream_roundtrip/specs/Theorems.antt)
 abbrev pub maxStreamBytes : ℕ
 maxStreamBytes = 34334
 
