@@ -8,11 +8,11 @@ use lib.ListN.{length, getD}
 use borrow.Author.Tests.{le-ltb}
 use Rattle.laws.specs.Checks.{_gives_, _then_}
 use Rattle.laws.specs.Outcome.{accepted}
-use Rattle.log.specs.Log.{Log, rowCount}
+use Rattle.log.specs.Log.{Log, rowCount, marksRefusal}
 use Rattle.preference.specs.declared.PreferenceList.{PreferenceList}
 use Rattle.pareto.specs.Best.{competing, bestMatches, isBest, BestMatch}
 use Rattle.pareto.specs.Call.{Leaves}
-use Rattle.pareto.specs.Checked.{marksRefusal, checkedRefusal}
+use Rattle.pareto.specs.Checked.{checkedRefusal}
 use Rattle.pareto.specs.Laws.Best.{best-match, match-best}
 use Rattle.pareto.specs.Laws.Call.{accepted-leaves}
 use Rattle.lattice_nodes.specs.Lattice.{nodeCount, crossings, bound}

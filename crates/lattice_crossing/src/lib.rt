@@ -1,131 +1,15 @@
-// Inside the walk of the lattice engine (000, 6.1): edges crossed on node bytes, to nodes side by side and from one
-// block or row to the next, as far as the budget is enough; and the first reached node found.
+// Inside the walk of the lattice engine (000, 6.1): edges crossed on node bytes from one block or row to the next, as
+// far as the budget is enough.
+use lattice_stretch::Progress;
 ghost use mathlib.Core.Path.{_≡_};
-ghost use Prim.Native.Nat.{ℕ, _+_, _/_, _<_, _≤_};
-ghost use mathlib.Core.List.{map};
-ghost use lib.ListN.{length, getD, drop};
-ghost use mathlib.Core.Bool.{false, cond};
+ghost use Prim.Native.Nat.{ℕ, _+_, _<_, _≤_};
+ghost use mathlib.Core.Bool.{cond};
 ghost use lib.Dec.{eqb};
+ghost use lib.ListN.{length, getD};
 ghost use Rattle.limits.specs.Limits.{maxNodes};
-ghost use Rattle.lattice_nodes.specs.Steps.{firstReached, stretch, partEdges, stageEdges, onwardEdges, rowEdges};
-ghost use Rattle.lattice_nodes.specs.Steps.{updated, enteredByte};
-ghost use Rattle.lattice_crossing.specs.Progress.{Crosses, Split, BlockAt};
-
-// What crossing edges came to: whether the budget was enough, and the crossings made.
-pub struct Progress {
-    pub ok: bool,
-    pub made: u32,
-}
-
-// ---- nodes side by side
-
-// A node's byte once an edge to it is crossed.
-fn enter(b: u8) -> u8
-    ensures { λ r. ⌜ r ≡ enteredByte b ⌝ }
-{
-    b | 2
-}
-
-// Each node's byte once an edge to it is crossed.
-fn enter_all(nodes: &mut [u8])
-    ensures { λ _. ⌜ now (nodes .exit) ≡ map enteredByte (now (nodes .entry)) ⌝ }
-{
-    let mut i = 0;
-    while i < nodes.len() {
-        nodes[i] = enter(nodes[i]);
-        i += 1;
-    }
-}
-
-// Crosses d edges, one to each of the nodes that stand side by side from `from` on, if the budget is enough for all.
-pub fn cross_stretch(nodes: &mut [u8], from: usize, d: usize, made: u32, budget: u32) -> Progress
-    requires { ⌜ from + d ≤ length (now nodes) ⌝ }
-    requires { ⌜ made ≤ budget ⌝ }
-    ensures { λ r. ⌜ Crosses (stretch from d) made budget (now (nodes .entry)) (now (nodes .exit)) (r .ok) (r .made) ⌝ }
-{
-    let left = (budget - made) as usize;
-    if left < d {
-        return Progress { ok: false, made };
-    }
-    let to = from + d;
-    enter_all(&mut nodes[from..to]);
-    Progress {
-        ok: true,
-        made: made + (d as u32),
-    }
-}
-
-// Whether one of the sixteen nodes from f on is reached: the compiler looks at all of them at once.
-fn some_reached(nodes: &[u8], f: usize) -> bool
-    requires { ⌜ f + 16 ≤ length (now nodes) ⌝ }
-    ensures { λ r. ⌜ (r ≡ false → ((i : ℕ) → i < 16 → getD (now (nodes .entry)) (f + i) 0 ≡ 0)) ⌝ }
-{
-    let mut some = false;
-    let mut i = 0;
-    while i < 16 {
-        some = some | (nodes[f + i] != 0);
-        i += 1;
-    }
-    some
-}
-
-// A place before which no node is reached, by sixteens.
-fn unreached_front(nodes: &[u8]) -> usize
-    ensures { λ f. ⌜ (f ≤ length (now (nodes .entry)))
-        × (f + firstReached (drop f (now (nodes .entry))) ≡ firstReached (now (nodes .entry))) ⌝ }
-{
-    let mut f: usize = 0;
-    while 16 <= nodes.len() - f {
-        if some_reached(nodes, f) {
-            return f;
-        }
-        f += 16;
-    }
-    f
-}
-
-// The place of the first reached node; their number where there is none.
-pub fn first_reached(nodes: &[u8]) -> usize
-    ensures { λ f. ⌜ f ≡ firstReached (now (nodes .entry)) ⌝ }
-{
-    let mut f = unreached_front(nodes);
-    while f < nodes.len() {
-        if nodes[f] != 0 {
-            return f;
-        }
-        f += 1;
-    }
-    f
-}
-
-// ---- blocks whose nodes are all reached
-
-// Crosses the edges for one part: in each block of `span` nodes those to all nodes but the first w.
-pub fn cross_part(nodes: &mut [u8], span: usize, w: usize, made: u32, budget: u32) -> Progress
-    requires { ⌜ Split (length (now nodes)) span w ⌝ }
-    requires { ⌜ made ≤ budget ⌝ }
-    ensures { λ r. ⌜ Crosses (partEdges span w (length (now (nodes .entry)) / span)) made budget (now (nodes .entry))
-        (now (nodes .exit)) (r .ok) (r .made) ⌝ }
-{
-    let edges = span - w;
-    if edges == 0 {
-        return Progress { ok: true, made };
-    }
-    let mut y = 0;
-    let mut count = made;
-    while y < nodes.len() {
-        let crossed = cross_stretch(nodes, y + w, edges, count, budget);
-        if !crossed.ok {
-            return crossed;
-        }
-        count = crossed.made;
-        y += span;
-    }
-    Progress {
-        ok: true,
-        made: count,
-    }
-}
+ghost use Rattle.lattice_nodes.specs.Steps.{stageEdges, onwardEdges, rowEdges, updated, enteredByte};
+ghost use Rattle.lattice_stretch.specs.Progress.{Crosses};
+ghost use Rattle.lattice_crossing.specs.Block.{BlockAt};
 
 // ---- from one block to the next
 
@@ -159,7 +43,7 @@ fn enter_from(from: u8, b: u8) -> u8
     if from == 0 {
         return b;
     }
-    enter(b)
+    lattice_stretch::enter(b)
 }
 
 // Enters from each reached one of the first w nodes, of which the first f are not, the node w further on.
@@ -184,7 +68,7 @@ fn cross_stage(nodes: &mut [u8], w: usize, made: u32, budget: u32) -> Progress
     ensures { λ r. ⌜ Crosses (stageEdges w (now (nodes .entry)) w) made budget (now (nodes .entry)) (now (nodes .exit))
         (r .ok) (r .made) ⌝ }
 {
-    let f = first_reached(&nodes[..w]);
+    let f = lattice_stretch::first_reached(&nodes[..w]);
     let count = count_reached(&nodes[f..w]);
     if budget - made < count {
         return Progress { ok: false, made };
@@ -221,18 +105,18 @@ pub fn cross_row(nodes: &mut [u8], a: usize, w: usize, made: u32, budget: u32) -
         (r .ok) (r .made) ⌝ }
 {
     let end = a + w;
-    let f = first_reached(&nodes[a..end]);
+    let f = lattice_stretch::first_reached(&nodes[a..end]);
     if f == w {
         return Progress { ok: true, made };
     }
     let from = a + f;
     let ahead = w - f;
-    let crossed = cross_stretch(nodes, from + 1, ahead - 1, made, budget);
+    let crossed = lattice_stretch::cross_stretch(nodes, from + 1, ahead - 1, made, budget);
     if !crossed.ok {
         return crossed;
     }
     if nodes.len() <= end {
         return crossed;
     }
-    cross_stretch(nodes, from + w, ahead, crossed.made, budget)
+    lattice_stretch::cross_stretch(nodes, from + w, ahead, crossed.made, budget)
 }

@@ -1,6 +1,6 @@
 // The lattice engine on weights and node numbers: it marks the nodes that rows hold, walks over the nodes, and reads
 // each row's mark from its node.
-use lattice_crossing::Progress;
+use lattice_stretch::Progress;
 ghost use mathlib.Core.Path.{_≡_};
 ghost use lib.ListN.{length, getD, set};
 ghost use Rattle.lattice_nodes.specs.Steps.{updated, heldByte, byteMark, markedBy};

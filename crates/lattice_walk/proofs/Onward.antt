@@ -16,8 +16,9 @@ use Rattle.lattice_nodes.specs.Laws.Alike.{Alike}
 use Rattle.lattice_nodes.specs.Laws.FirstReached.{first-low, first-zero}
 use Rattle.lattice_nodes.specs.Laws.Blocks.{First, weight-is, later-are, block-ends, block-walked, trail-none, trail-inside}
 use Rattle.lattice_nodes.specs.Laws.Rows.{row-walked, row-passed}
-use Rattle.lattice_crossing.specs.Progress.{Crosses, BlockAt}
-use Rattle.lattice_crossing.specs.Laws.Crossing.{none-crossed, paid-for, kept, reordered, cut-off, then-more, of-part}
+use Rattle.lattice_stretch.specs.Progress.{Crosses}
+use Rattle.lattice_crossing.specs.Block.{BlockAt}
+use Rattle.lattice_stretch.specs.Laws.Crossing.{none-crossed, paid-for, kept, reordered, cut-off, then-more, of-part}
 use Rattle.lattice_walk.specs.Blocks.{Small}
 
 -- a walk crosses no fewer edges by going on

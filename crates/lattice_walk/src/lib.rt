@@ -1,11 +1,11 @@
 // The walk of the lattice engine (000, 6.1), on weights and node bytes: upward over the edges that leave reached nodes,
 // a recursion over the parts that has `lattice_crossing` cross them.
-use lattice_crossing::Progress;
+use lattice_stretch::Progress;
 ghost use mathlib.Core.Path.{_≡_};
 ghost use Prim.Native.Nat.{_≤_};
 ghost use lib.ListN.{length, getD};
 ghost use Rattle.lattice_nodes.specs.Steps.{trail};
-ghost use Rattle.lattice_crossing.specs.Progress.{Crosses};
+ghost use Rattle.lattice_stretch.specs.Progress.{Crosses};
 ghost use Rattle.lattice_walk.specs.Blocks.{Small, Rows};
 
 // Crosses the edges of a block whose first node is reached, so that all are: part by part.
@@ -22,7 +22,7 @@ fn cross_whole(weights: &[usize], nodes: &mut [u8], made: u32, budget: u32) -> P
     let mut count = made;
     while i < weights.len() {
         let weight = weights[i];
-        let crossed = lattice_crossing::cross_part(nodes, span, weight, count, budget);
+        let crossed = lattice_stretch::cross_part(nodes, span, weight, count, budget);
         if !crossed.ok {
             return crossed;
         }
@@ -71,7 +71,7 @@ fn walk_block(weights: &[usize], nodes: &mut [u8], made: u32, budget: u32) -> Pr
         (trail (now (weights .entry)) (now (nodes .entry)) (length (now (nodes .entry)))) made budget
         (now (nodes .entry)) (now (nodes .exit)) (r .ok) (r .made) ⌝ }
 {
-    let f = lattice_crossing::first_reached(nodes);
+    let f = lattice_stretch::first_reached(nodes);
     if f == nodes.len() {
         return Progress { ok: true, made };
     }
@@ -80,7 +80,7 @@ fn walk_block(weights: &[usize], nodes: &mut [u8], made: u32, budget: u32) -> Pr
     }
     let weight = weights[0];
     if weight == 1 {
-        return lattice_crossing::cross_stretch(nodes, f + 1, nodes.len() - f - 1, made, budget);
+        return lattice_stretch::cross_stretch(nodes, f + 1, nodes.len() - f - 1, made, budget);
     }
     if weights[1] == 1 {
         return walk_rows(weights, nodes, f, made, budget);

@@ -105,7 +105,7 @@ fn fill_named(
     let mut r: usize = 0;
     while r < n {
         let v = value_at(log, r, column);
-        let layer = levels::layer_among(values, layers, count, v, others);
+        let layer = layers::layer_among(values, layers, count, v, others);
         table[limits::COLUMNS * r + into] = layer as u16;
         r += 1;
     }
@@ -129,7 +129,7 @@ fn fill_layers(
     let rule = rule_of(list, k);
     let column = rule.column;
     let at = levels::part_at(list, k);
-    let names = levels::names_of(list, at.place);
+    let names = layers::names_of(list, at.place);
     let values = names.values;
     let layers = names.layers;
     let count = names.count;

@@ -2,105 +2,21 @@
 use constructor::Constructor;
 use constructor::Layering;
 use preference::LevelAnswer;
-use preference::Names;
 use preference::PartAt;
 use preference::Preference;
 use preference::PreferenceList;
 ghost use mathlib.Core.Path.{_≡_};
-ghost use Prim.Native.Nat.{_+_, _<_, min};
 ghost use lib.IntN.{pos};
 ghost use lib.ListN.{getD, length};
-ghost use lib.Dec.{eqb};
-ghost use mathlib.Core.Bool.{not, cond};
-ghost use Rattle.limits.specs.Limits.{maxNamed};
+ghost use mathlib.Core.Bool.{not};
 ghost use Rattle.constructor.specs.Level.{inside};
 ghost use Rattle.laws.specs.Checks.{_gives_};
 ghost use Rattle.laws.specs.Outcome.{outcome};
-ghost use Rattle.preference.specs.List.{preferenceAt, places, namedPlaces};
-ghost use Rattle.preference.specs.Level.{layerOf, levelAt, valueRefusal, levelRefusal, outcomeOf};
+ghost use Rattle.preference.specs.List.{preferenceAt, places};
+ghost use Rattle.preference.specs.Level.{levelAt, valueRefusal, levelRefusal, outcomeOf};
 ghost use Rattle.preference.specs.Parts.{levels, maxLevels, partOf, rowRefusal};
-ghost use Rattle.preference.specs.Names.{among, NamesOf};
 
 // ---- the level of a value
-
-fn counted_names(list: PreferenceList) -> usize
-    ensures { λ r. ⌜ r ≡ namedPlaces list ⌝ }
-{
-    let n = list.namedcount;
-    if n <= preference::MAX_NAMED_COUNT {
-        n as usize
-    } else {
-        limits::MAX_NAMED
-    }
-}
-
-// The place after m where owner is i: a named value of the preference at place i is kept, and any other is written
-// over.
-fn place_after(m: usize, owner: usize, i: usize) -> usize
-    requires { ⌜ m < maxNamed ⌝ }
-    ensures { λ r. ⌜ r ≡ cond (eqb owner i) (m + 1) m ⌝ }
-{
-    if owner == i { m + 1 } else { m }
-}
-
-// The named values of the preference at place i, so that whoever asks for many layers reads the list once.
-pub fn names_of(list: PreferenceList, i: usize) -> Names
-    ensures { λ r. ⌜ NamesOf list i r ⌝ }
-{
-    let count = counted_names(list);
-    let mut values = [0i32; limits::MAX_NAMED];
-    let mut layers = [0u8; limits::MAX_NAMED];
-    let mut next: usize = 0;
-    let mut k: usize = 0;
-    while k < count {
-        let naming = list.named[k];
-        let owner = naming.preference;
-        let value = naming.value;
-        values[next] = value;
-        layers[next] = naming.layer;
-        next = place_after(next, arith::wide(owner), i);
-        k += 1;
-    }
-    Names {
-        count: next,
-        values: values,
-        layers: layers,
-    }
-}
-
-fn least(n: usize, a: usize, b: usize) -> usize
-    ensures { λ r. ⌜ r ≡ min n (min a b) ⌝ }
-{
-    if a <= b {
-        return if n <= a { n } else { a };
-    }
-    if n <= b { n } else { b }
-}
-
-// The layer of the first of n values that is v, or that of other values.
-pub fn layer_among(values: &[i32], layers: &[u8], n: usize, v: i32, others: u8) -> u8
-    ensures { λ r. ⌜ r ≡ among (now (values .entry)) (now (layers .entry)) n v others ⌝ }
-{
-    let counted = least(n, values.len(), layers.len());
-    let mut k: usize = 0;
-    while k < counted {
-        let value = values[k];
-        if arith::same(value, v) {
-            return layers[k];
-        }
-        k += 1;
-    }
-    others
-}
-
-fn layer_of(list: PreferenceList, i: usize, v: i32, others: u8) -> u8
-    ensures { λ r. ⌜ r ≡ layerOf list i v others ⌝ }
-{
-    let names = names_of(list, i);
-    let values = names.values;
-    let layers = names.layers;
-    layer_among(&values, &layers, names.count, v, others)
-}
 
 // The form at place i; LOWEST with every figure 0 past the eighth.
 fn constructor_at(list: PreferenceList, i: usize) -> Constructor
@@ -124,7 +40,7 @@ fn level_at(list: PreferenceList, i: usize, v: i32) -> u64
     let y = constructor::layering_of(c);
     match y {
         Layering::Numeric => constructor::level_of(c, v),
-        Layering::Layers { top: _, others } => layer_of(list, i, v, others) as u64,
+        Layering::Layers { top: _, others } => layers::layer_of(list, i, v, others) as u64,
     }
 }
 

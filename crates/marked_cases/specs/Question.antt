@@ -3,7 +3,7 @@ use Prim.Native.Nat.{ℕ}
 use mathlib.Core.List.{List, [], _∷_}
 use mathlib.Core.Path.{_≡_}
 use lib.IntN.{ℤ}
-use Rattle.laws.specs.Outcome.{Outcome, accepted, refused, outcome}
+use Rattle.laws.specs.Outcome.{Outcome, outcome}
 use Rattle.log.specs.Log.{Log}
 use Rattle.preference.specs.Level.{levelRefusal, levelAt, maxAt}
 use Rattle.pareto.specs.Best.{marksOf}

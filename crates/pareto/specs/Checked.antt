@@ -5,7 +5,6 @@ use lib.IntN.{ℤ}
 use Rattle.laws.specs.Checks.{_then_}
 use Rattle.laws.specs.First.{firstRefusal}
 use Rattle.log.specs.Log.{Log, rowCount, rowAt, logRefusal}
-pub use Rattle.log.specs.Log.{marksRefusal}
 use Rattle.preference.specs.Valid.{listRefusal}
 use Rattle.preference.specs.Parts.{rowRefusal}
 use Rattle.preference.specs.declared.PreferenceList.{PreferenceList}

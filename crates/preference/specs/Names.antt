@@ -16,9 +16,13 @@ use Rattle.preference.specs.declared.PreferenceList.{PreferenceList}
 abbrev pub pick : (ℕ → Bool) → (ℕ → ℕ) → ℕ → ℕ → ℕ
 pick p g n other = cond (ltb (firstAt p n) n) (g (firstAt p n)) other
 
+-- value j is v
+abbrev pub isValue : List ℤ → ℤ → ℕ → Bool
+isValue values v j = eqZ (getD values j (pos 0)) v
+
 -- the layer of the first of n values that is v
 abbrev pub lookUp : List ℤ → List ℕ → ℕ → ℤ → ℕ → ℕ
-lookUp values layers n v others = pick (λ j. eqZ (getD values j (pos 0)) v) (λ j. getD layers j 0) n others
+lookUp values layers n v others = pick (isValue values v) (λ j. getD layers j 0) n others
 
 -- the same, of as many of the n values and their layers as there are
 abbrev pub among : List ℤ → List ℕ → ℕ → ℤ → ℕ → ℕ

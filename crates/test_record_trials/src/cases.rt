@@ -1,5 +1,5 @@
 // Streams that are made to be refused. A line prints the number, the place, and the rows read.
-ghost use Prim.Native.Nat.{_<_, _≤_};
+ghost use Prim.Native.Nat.{_<_};
 ghost use lib.ListN.{length};
 use crate::streams;
 use stream_format::ReadAnswer;

@@ -7,12 +7,12 @@ use lib.Dec.{ltb, eqb}
 use Rattle.limits.specs.Limits.{maxWindow}
 use Rattle.laws.specs.Checks.{_gives_, _then_}
 use Rattle.laws.specs.Outcome.{Outcome, accepted, refused}
-use Rattle.log.specs.Log.{Log, rowCount}
+use Rattle.log.specs.Log.{Log, rowCount, marksRefusal}
 use Rattle.preference.specs.Valid.{listRefusal}
 use Rattle.preference.specs.declared.PreferenceList.{PreferenceList}
 use Rattle.pareto.specs.Best.{competing, rowDominates}
 use Rattle.pareto.specs.Call.{Call}
-use Rattle.pareto.specs.Checked.{marksRefusal, rowsRefusal, checkedRefusal}
+use Rattle.pareto.specs.Checked.{rowsRefusal, checkedRefusal}
 use Rattle.window_machine.specs.Machine.{State, machine}
 use Rattle.window.specs.declared.WindowAnswer.{WindowAnswer}
 use Rattle.window.specs.declared.WindowAnswer.the-variants.{Compared, Refused}

@@ -2,7 +2,7 @@
 // table of what they accept.
 use preference::PreferenceList;
 ghost use mathlib.Core.Path.{_≡_};
-ghost use Prim.Native.Nat.{ℕ, _+_, _*_, _/_, _<_, _≤_};
+ghost use Prim.Native.Nat.{_+_, _*_, _/_, _<_};
 ghost use lib.ListN.{length};
 ghost use Rattle.log.specs.Log.{logOf};
 ghost use Rattle.pareto.specs.Best.{marksAfter};

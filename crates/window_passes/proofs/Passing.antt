@@ -9,10 +9,11 @@ use lib.ListN.{getD, length}
 use Rattle.window_machine.specs.Order.{Rising, Ordered}
 use Rattle.window_machine.specs.Laws.Order.{read-ordered}
 use Rattle.window_machine.specs.Machine.{Entry, State, read, pass}
-use Rattle.window_step.specs.Work.{entryAt, entries, stateOf, stateAt, Ready, Read}
+use Rattle.window_entries.specs.Entries.{entryAt, entries}
+use Rattle.window_step.specs.Work.{stateOf, stateAt, Ready, Read}
 use Rattle.window_passes.specs.Passes.{PassReady, Passed}
 use Rattle.window_step.specs.declared.Standing.{Standing}
-use Rattle.window_step.specs.Laws.Entries.{entries-agree}
+use Rattle.window_entries.specs.Laws.Entries.{entries-agree}
 
 -- i of the n entries that wait are read
 pub record Passing (dom : ℕ → ℕ → Bool) (w n : ℕ) (l m : List ℕ) (p : Standing) (l′ m′ : List ℕ) (p′ : Standing) (i : ℕ) : Type 0 where

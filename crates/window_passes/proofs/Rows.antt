@@ -7,8 +7,8 @@ use mathlib.Core.List.{List, [], _∷_, _++_, map}
 use lib.ListN.{length, take, getD}
 use lib.Seq.{take-suc, take-all}
 use Rattle.window_machine.specs.Machine.{Entry, unread}
-use Rattle.window_step.specs.Work.{entries, putEntry}
-use Rattle.window_step.specs.Laws.Entries.{entries-put}
+use Rattle.window_entries.specs.Entries.{entries, putEntry}
+use Rattle.window_entries.specs.Laws.Entries.{entries-put}
 
 map-snoc : (xs : List ℕ) (r : ℕ) → map unread (xs ++ (r ∷ [])) ≡ map unread xs ++ (unread r ∷ [])
 map-snoc [] r = refl

@@ -7,7 +7,8 @@ use mathlib.Core.List.{List, map, List·Memᴰ·not-nil}
 use lib.ListN.{length, replicate}
 use Rattle.window_machine.specs.Order.{Ordered}
 use Rattle.window_machine.specs.Machine.{Entry, State, marked, pass, passes, renew, finish, isEmpty, unread, start, machine}
-use Rattle.window_step.specs.Work.{entries, stateOf, stateAt}
+use Rattle.window_entries.specs.Entries.{entries}
+use Rattle.window_step.specs.Work.{stateOf, stateAt}
 use Rattle.window_passes.specs.Passes.{PassReady, Passed, RunReady, PassesRan}
 use Rattle.window_step.specs.declared.Standing.{Standing}
 

@@ -8,7 +8,8 @@ use lib.ListN.{getD, length}
 use Rattle.limits.specs.Limits.{maxRuns, maxWindow, u32End}
 use Rattle.window_machine.specs.Order.{Ordered}
 use Rattle.window_machine.specs.Machine.{pass, passes}
-use Rattle.window_step.specs.Work.{clockEnd, countEnd, entries, stateOf, stateAt}
+use Rattle.window_entries.specs.Entries.{entries}
+use Rattle.window_step.specs.Work.{clockEnd, countEnd, stateOf, stateAt}
 use Rattle.window_step.specs.declared.Standing.{Standing}
 
 -- rows that can wait behind a window of w entries: their numbers fit 32 bits, and there is room for them

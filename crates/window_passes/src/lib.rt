@@ -2,13 +2,14 @@
 // and no call open to others: `window` meets what its calls require.
 use window_step::Standing;
 ghost use mathlib.Core.Path.{_≡_};
-ghost use Prim.Native.Nat.{ℕ, _+_, _*_, _≤_};
+ghost use Prim.Native.Nat.{_+_, _*_, _≤_};
 ghost use mathlib.Core.List.{map};
 ghost use lib.ListN.{length};
 ghost use Rattle.limits.specs.Limits.{maxWindow};
 ghost use Rattle.window_machine.specs.Machine.{marked, unread, machine};
 ghost use Rattle.window_machine.specs.Order.{Ordered};
-ghost use Rattle.window_step.specs.Work.{tableDominates, entries, stateAt};
+ghost use Rattle.window_entries.specs.Entries.{entries};
+ghost use Rattle.window_step.specs.Work.{tableDominates, stateAt};
 ghost use Rattle.window_passes.specs.Passes.{Waits, PassReady, Passed, RunReady, PassesRan};
 
 // Reads the n entries that wait.
@@ -29,8 +30,8 @@ fn one_pass(
     let mut standing = p;
     let mut i: usize = 0;
     while i < n {
-        let row = window_step::word(work, 2 * (w + i));
-        let timestamp = window_step::word(work, 2 * (w + i) + 1);
+        let row = window_entries::word(work, 2 * (w + i));
+        let timestamp = window_entries::word(work, 2 * (w + i) + 1);
         standing = window_step::read_row(table, w, work, marks, flags, standing, row, timestamp);
         i += 1;
     }
@@ -44,7 +45,7 @@ fn release_all(work: &[u32], occupied: usize, marks: &mut [u8])
 {
     let mut i: usize = 0;
     while i < occupied {
-        window_step::mark(marks, window_step::word(work, 2 * i) as usize);
+        window_entries::mark(marks, window_entries::word(work, 2 * i) as usize);
         i += 1;
     }
 }
@@ -100,7 +101,7 @@ fn fill_waiting(work: &mut [u32], w: usize, rows: &[usize])
 {
     let mut i: usize = 0;
     while i < rows.len() {
-        window_step::put_entry(work, w + i, rows[i] as u32, 0);
+        window_entries::put_entry(work, w + i, rows[i] as u32, 0);
         i += 1;
     }
 }

@@ -8,7 +8,8 @@ use lib.ListN.{getD}
 use borrow.Author.Tests.{eq-eqb, ne-eqb, not-false}
 use Rattle.pareto.specs.Table.{firstDominates, secondDominates, hasLower, compared, relation}
 use Rattle.window_machine.specs.Machine.{spares}
-use Rattle.window_step.specs.Work.{tableDominates, entryAt}
+use Rattle.window_entries.specs.Entries.{entryAt}
+use Rattle.window_step.specs.Work.{tableDominates}
 
 -- one compare tells both ways
 turned : (first second : Bool) → eqb (relation first second) secondDominates ≡ eqb (relation second first) firstDominates

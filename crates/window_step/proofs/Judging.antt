@@ -8,10 +8,11 @@ use lib.ListN.{length}
 use borrow.Author.Tests.{lt-ltb, le-ltb}
 use Rattle.window_machine.specs.Laws.Ends.{compares-le}
 use Rattle.window_machine.specs.Machine.{Entry, dominated, compares, spares, tick, remove, enter, setAside, place, judge, read}
-use Rattle.window_step.specs.Work.{entries, putEntry, stateOf, Filtered, Scanned, Ready, Judged}
+use Rattle.window_entries.specs.Entries.{entries, putEntry, Filtered}
+use Rattle.window_step.specs.Work.{stateOf, Scanned, Ready, Judged}
 use Rattle.window_step.specs.declared.Standing.{Standing}
 use Rattle.window_step.specs.declared.Verdict.{Verdict}
-use Rattle.window_step.specs.Laws.Entries.{length-entries, entries-agree, entries-put, entries-put0, put-other}
+use Rattle.window_entries.specs.Laws.Entries.{length-entries, entries-agree, entries-put, entries-put0, put-other}
 
 compares-occupied : (dom : ℕ → ℕ → Bool) (r : ℕ) (l : List ℕ) (i n : ℕ) → compares dom r (entries l i n) ≤ n
 compares-occupied dom r l i n = omega (arith, compares-le dom r (entries l i n), length-entries l i n)

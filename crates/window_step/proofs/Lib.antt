@@ -1,4 +1,3 @@
-pub mod Packed
 pub mod Comparing
 pub mod Scanning
 pub mod Judging

@@ -13,9 +13,10 @@ use Rattle.laws.specs.Lists.{anyOf}
 use Rattle.laws.specs.Laws.Bools.{neither}
 use Rattle.pareto.specs.Table.{firstDominates, secondDominates, compared}
 use Rattle.window_machine.specs.Machine.{Entry, dominated, compares, spares}
-use Rattle.window_step.specs.Work.{tableDominates, entryAt, entries, Undropped, Fronted, Scanned}
+use Rattle.window_entries.specs.Entries.{entryAt, entries}
+use Rattle.window_step.specs.Work.{tableDominates, Undropped, Fronted, Scanned}
 use Rattle.window_step.specs.declared.Front.{Front}
-use Rattle.window_step.specs.Laws.Entries.{entries-step, entries-done}
+use Rattle.window_entries.specs.Laws.Entries.{entries-step, entries-done}
 use Rattle.window_step.proofs.Comparing.{hits, misses, flag-value, spared-by}
 
 -- ---- the entries that do not dominate the row, one by one

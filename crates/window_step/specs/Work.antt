@@ -1,15 +1,15 @@
--- How the engine holds the machine's state, and what its functions promise. Entry i of the work list is its row at 2 i
--- and its timestamp at 2 i + 1: the window from entry 0 on, what waits and the overflow from entry w on.
-use Prim.Native.Nat.{ℕ, zero, suc, _+_, _-_, _*_, _≤_, _<_}
+-- How the engine holds the machine's state, and what its functions promise. Of the work list's entries the window's
+-- stand from entry 0 on, what waits and the overflow from entry w on.
+use Prim.Native.Nat.{ℕ, _+_, _-_, _*_, _≤_, _<_}
 use mathlib.Core.Path.{_≡_}
-use mathlib.Core.Bool.{Bool, true, false, not}
-use mathlib.Core.List.{List, [], _∷_}
+use mathlib.Core.Bool.{Bool, true, false}
+use mathlib.Core.List.{List}
 use lib.Dec.{eqb}
-use lib.ListN.{getD, set, length}
+use lib.ListN.{getD}
 use Rattle.limits.specs.Limits.{maxRuns, maxWindow}
-use Rattle.pareto.specs.Table.{firstDominates, secondDominates, compared}
-use Rattle.window_machine.specs.Machine.{Entry, State, keep, marked, older, younger, dominated, compares, spares, judge}
-use Rattle.window_machine.specs.Machine.{read}
+use Rattle.pareto.specs.Table.{firstDominates, compared}
+use Rattle.window_machine.specs.Machine.{Entry, State, dominated, compares, spares, judge, read}
+use Rattle.window_entries.specs.Entries.{entryAt, entries, Flags}
 use Rattle.window_step.specs.declared.Front.{Front}
 use Rattle.window_step.specs.declared.Standing.{Standing}
 use Rattle.window_step.specs.declared.Verdict.{Verdict}
@@ -18,19 +18,7 @@ use Rattle.window_step.specs.declared.Verdict.{Verdict}
 unfoldable pub tableDominates : List ℕ → ℕ → ℕ → Bool
 tableDominates table a b = eqb (compared table a b) firstDominates
 
--- ---- entries
-
-unfoldable pub entryAt : List ℕ → ℕ → Entry
-entryAt l i = record { row = getD l (2 * i) 0; timestamp = getD l (2 * i + 1) 0 }
-
--- n entries from entry i on
-unfoldable pub entries : List ℕ → ℕ → ℕ → List Entry
-entries l i zero = []
-entries l i (suc n) = entryAt l i ∷ entries l (suc i) n
-
--- an entry stored at place i
-unfoldable pub putEntry : List ℕ → ℕ → ℕ → ℕ → List ℕ
-putEntry l i r s = set (set l (2 * i) r) (2 * i + 1) s
+-- ---- the state
 
 unfoldable pub stateOf : ℕ → List ℕ → List ℕ → ℕ → ℕ → ℕ → ℕ → State
 stateOf w l m occupied aside clock count =
@@ -41,24 +29,6 @@ abbrev pub stateAt : ℕ → List ℕ → List ℕ → Standing → State
 stateAt w l m p = stateOf w l m (p .occupied) (p .overflow) (p .clock) (p .count)
 
 -- ---- what each function promises, of the work list l before and l′ after it
-
--- the first n entries filtered by p: m of them stay, and the entries behind are as they were
-pub record Filtered (p : Entry → Bool) (l l′ : List ℕ) (n m : ℕ) : Type 0 where
-  pub few : m ≤ n
-  pub long : length l′ ≡ length l
-  pub kept : entries l′ 0 m ≡ keep p (entries l 0 n)
-  pub rest : (j : ℕ) → n ≤ j → entryAt l′ j ≡ entryAt l j
-
--- the first n entries were released by a row with timestamp s: m of them stay, the rows of the others are marked
-pub record Released (s : ℕ) (l l′ : List ℕ) (n m : ℕ) (marks marks′ : List ℕ) : Type 0 where
-  pub filtered : Filtered (younger s) l l′ n m
-  pub marks-are : marks′ ≡ marked (keep (older s) (entries l 0 n)) marks
-
--- the test p takes no entry out before place i of n, and from there on the flag of one that the row dominates says that
--- it does
-pub record Flags (p : Entry → Bool) (l : List ℕ) (i n : ℕ) (flags : List ℕ) : Type 0 where
-  pub front : (j : ℕ) → j < i → p (entryAt l j) ≡ true
-  pub told : (j : ℕ) → i ≤ j → j < n → eqb (getD flags j 0) secondDominates ≡ not (p (entryAt l j))
 
 -- row r was compared with the first i of n entries, and none of them dominates it
 pub record Undropped (dom : ℕ → ℕ → Bool) (r : ℕ) (l : List ℕ) (n i : ℕ) : Type 0 where

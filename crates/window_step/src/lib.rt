@@ -1,47 +1,13 @@
 // One row of a level table read by the window machine, whose state is in a lent work list. Inside the window engine,
 // and no call open to others: `window_passes` meets what its calls require.
 ghost use mathlib.Core.Path.{_≡_};
-ghost use Prim.Native.Nat.{ℕ, _+_, _*_, _<_, _≤_};
-ghost use mathlib.Core.Bool.{Bool};
-ghost use lib.ListN.{getD, set, length};
-ghost use Rattle.limits.specs.Limits.{maxWindow, maxWork};
+ghost use Prim.Native.Nat.{_*_, _<_, _≤_};
+ghost use lib.ListN.{getD, length};
+ghost use Rattle.limits.specs.Limits.{maxWindow};
 ghost use Rattle.pareto.specs.Table.{compared};
-ghost use Rattle.window_machine.specs.Machine.{Entry};
 ghost use Rattle.window_machine.specs.Order.{Rising};
-ghost use Rattle.window_step.specs.Work.{tableDominates, entries, putEntry, Filtered, Released, Flags, Fronted};
-ghost use Rattle.window_step.specs.Work.{Scanned, Ready, Judged, Read};
-
-// ---- the lent lists: a place past the end reads as 0, and a store there does nothing
-
-pub fn word(work: &[u32], i: usize) -> u32
-    ensures { λ n. ⌜ n ≡ getD (now (work .entry)) i 0 ⌝ }
-{
-    if i < work.len() { work[i] } else { 0 }
-}
-
-fn store(work: &mut [u32], i: usize, n: u32)
-    ensures { λ _. ⌜ now (work .exit) ≡ set (now (work .entry)) i n ⌝ }
-{
-    if i < work.len() {
-        work[i] = n;
-    }
-}
-
-pub fn put_entry(work: &mut [u32], i: usize, row: u32, timestamp: u32)
-    requires { ⌜ i ≤ maxWork ⌝ }
-    ensures { λ _. ⌜ now (work .exit) ≡ putEntry (now (work .entry)) i row timestamp ⌝ }
-{
-    store(work, 2 * i, row);
-    store(work, 2 * i + 1, timestamp);
-}
-
-pub fn mark(marks: &mut [u8], row: usize)
-    ensures { λ _. ⌜ now (marks .exit) ≡ set (now (marks .entry)) row 1 ⌝ }
-{
-    word::put_u8(marks, row, 1);
-}
-
-// ---- reading one row
+ghost use Rattle.window_entries.specs.Entries.{entries};
+ghost use Rattle.window_step.specs.Work.{tableDominates, Fronted, Scanned, Ready, Judged, Read};
 
 // How many entries, the oldest first, are apart from a row: neither dominates the other. How the next one, if there is
 // one, and the row stand.
@@ -138,55 +104,6 @@ fn scan(table: &[u16], work: &[u32], occupied: usize, row: u32, flags: &mut [u8]
     }
 }
 
-// Removes the entries that the row dominates by their flags, from one entry on; how many stay comes back.
-fn remove(flags: &[u8], work: &mut [u32], from: usize, occupied: usize) -> usize
-    requires { ⌜ (occupied ≤ maxWindow) × (from ≤ occupied) × (occupied ≤ length (now flags))
-        × (2 * occupied ≤ length (now work)) ⌝ }
-    ensures { λ m. ⌜
-        ((p : Entry → Bool) → Flags p (now (work .entry)) from occupied (now (flags .entry))
-        → Filtered p (now (work .entry)) (now (work .exit)) occupied m) ⌝ }
-{
-    let mut i = from;
-    let mut m = from;
-    while i < occupied {
-        let row = word(work, 2 * i);
-        let timestamp = word(work, 2 * i + 1);
-        if flags[i] != pareto::SECOND_DOMINATES {
-            put_entry(work, m, row, timestamp);
-            m += 1;
-        }
-        i += 1;
-    }
-    m
-}
-
-// Releases the entries with a timestamp below s: their rows are marked. How many stay comes back. The first entry has
-// the smallest timestamp.
-fn release(work: &mut [u32], occupied: usize, s: u32, marks: &mut [u8]) -> usize
-    requires { ⌜ (occupied ≤ maxWindow) × (2 * occupied ≤ length (now work))
-        × Rising (entries (now work) 0 occupied) ⌝ }
-    ensures { λ m. ⌜ Released s (now (work .entry)) (now (work .exit)) occupied m (now (marks .entry))
-        (now (marks .exit)) ⌝ }
-{
-    if s <= word(work, 1) {
-        return occupied;
-    }
-    let mut i: usize = 0;
-    let mut m: usize = 0;
-    while i < occupied {
-        let row = word(work, 2 * i);
-        let timestamp = word(work, 2 * i + 1);
-        if timestamp < s {
-            mark(marks, row as usize);
-        } else {
-            put_entry(work, m, row, timestamp);
-            m += 1;
-        }
-        i += 1;
-    }
-    m
-}
-
 // Where the machine stands, beside its lists: entries in the window, entries set aside, the clock, the compares made.
 pub struct Standing {
     pub occupied: usize,
@@ -219,9 +136,9 @@ fn judge(
             count,
         };
     }
-    let occupied = remove(flags, work, verdict.from, p.occupied);
+    let occupied = window_entries::remove(flags, work, verdict.from, p.occupied);
     if occupied < w {
-        put_entry(work, occupied, row, clock);
+        window_entries::put_entry(work, occupied, row, clock);
         return Standing {
             occupied: occupied + 1,
             overflow,
@@ -229,7 +146,7 @@ fn judge(
             count,
         };
     }
-    put_entry(work, w + overflow, row, clock);
+    window_entries::put_entry(work, w + overflow, row, clock);
     Standing {
         occupied,
         overflow: overflow + 1,
@@ -252,7 +169,7 @@ pub fn read_row(
     ensures { λ q. ⌜ Read (tableDominates (now (table .entry))) w (record { row = row; timestamp = timestamp })
         (now (work .entry)) (now (marks .entry)) p (now (work .exit)) (now (marks .exit)) q ⌝ }
 {
-    let occupied = release(work, p.occupied, timestamp, marks);
+    let occupied = window_entries::release(work, p.occupied, timestamp, marks);
     let released = Standing {
         occupied,
         overflow: p.overflow,

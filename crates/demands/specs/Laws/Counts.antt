@@ -7,10 +7,9 @@ use lib.ListN.{length}
 use borrow.Author.Tests.{ne-eqb, le-ltb}
 use Rattle.laws.specs.Checks.{_gives_, _then_}
 use Rattle.laws.specs.Laws.Bools.{false-true}
-use Rattle.log.specs.Log.{Log, rowCount}
+use Rattle.log.specs.Log.{Log, rowCount, marksRefusal}
 use Rattle.preference.specs.declared.PreferenceList.{PreferenceList}
 use Rattle.pareto.specs.Best.{competing, rowDominates}
-use Rattle.pareto.specs.Checked.{marksRefusal}
 use Rattle.window_machine.specs.Laws.Ends.{count-bound-half}
 use Rattle.window.specs.Engine.{sizesRefusal, machineOf}
 

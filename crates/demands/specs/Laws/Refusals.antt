@@ -8,11 +8,11 @@ use lib.IntN.{ℤ}
 use lib.ListN.{length, getD, drop}
 use borrow.Author.Tests.{eqb-true}
 use Rattle.laws.specs.Lists.{anyOf}
-use Rattle.log.specs.Log.{Log, logRefusal}
+use Rattle.log.specs.Log.{Log, logRefusal, marksRefusal}
 use Rattle.preference.specs.Level.{levelRefusal}
 use Rattle.preference.specs.declared.PreferenceList.{PreferenceList}
-use Rattle.pareto.specs.Checked.{marksRefusal, checkedRefusal}
-use Rattle.pareto.specs.Refusals.{Among, listRefusals, checkedRefusals}
+use Rattle.pareto.specs.Checked.{checkedRefusal}
+use Rattle.pareto.specs.Refusals.{Among, checkedRefusals}
 use Rattle.pareto.specs.Laws.Refusals.{within, wider, none-among, gives-among, then-among, layer-among}
 use Rattle.pareto.specs.Laws.Refusals.{preference-among}
 use Rattle.pareto.specs.Laws.Refusals.{value-among, list-in, checked-among}

@@ -9,10 +9,10 @@ use borrow.Author.Tests.{ltb-false, le-ltb, eqb-true, eqb-false}
 use Rattle.laws.specs.Checks.{_gives_, _then_}
 use Rattle.laws.specs.Lists.{anyOf}
 use Rattle.laws.specs.Laws.Checks.{gives-no, then-next, then-first}
-use Rattle.log.specs.Log.{Log, rowCount, logRefusal}
+use Rattle.log.specs.Log.{Log, rowCount, logRefusal, marksRefusal}
 use Rattle.log.specs.Laws.Log.{accepted-rows}
 use Rattle.preference.specs.declared.PreferenceList.{PreferenceList}
-use Rattle.pareto.specs.Checked.{marksRefusal, checkedRefusal}
+use Rattle.pareto.specs.Checked.{checkedRefusal}
 use Rattle.pareto.specs.Refusals.{Among}
 use Rattle.pareto.specs.Laws.Refusals.{within, wider, none-among, gives-among, then-among, checked-in}
 use Rattle.lattice_nodes.specs.Lattice.{nodeCount, crossings}

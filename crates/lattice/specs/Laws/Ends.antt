@@ -12,14 +12,14 @@ use Rattle.laws.specs.Checks.{_gives_, _then_}
 use Rattle.laws.specs.Outcome.{outcome}
 use Rattle.laws.specs.Lists.{joined}
 use Rattle.laws.specs.Laws.Checks.{then-none, gives-none, gives-yes, gives-no}
-use Rattle.log.specs.Log.{Log, rowCount, logRefusal}
+use Rattle.log.specs.Log.{Log, rowCount, logRefusal, marksRefusal}
 use Rattle.preference.specs.Valid.{listRefusal}
 use Rattle.preference.specs.Laws.Parts.{Within}
 use Rattle.preference.specs.declared.PreferenceList.{PreferenceList}
 use Rattle.pareto.specs.Best.{marksOf, marksAfter}
 use Rattle.pareto.specs.Call.{Call, marksLeft, Leaves}
 use Rattle.pareto.specs.Laws.Call.{leaves-refused}
-use Rattle.pareto.specs.Checked.{rowsRefusal, marksRefusal, checkedRefusal}
+use Rattle.pareto.specs.Checked.{rowsRefusal, checkedRefusal}
 use Rattle.lattice_nodes.specs.Lattice.{nodeCount, crossedAt, crossings, nodeBytes}
 use Rattle.lattice_nodes.specs.Steps.{weightsOf}
 use Rattle.lattice_nodes.specs.Laws.Some.{All}

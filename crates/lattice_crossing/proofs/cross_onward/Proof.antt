@@ -8,7 +8,7 @@ use lib.ListN.{length, take, drop, length-drop}
 use lib.Seq.{length-take-le}
 use Rattle.lattice_nodes.specs.Steps.{stageEdges, onwardEdges}
 use Rattle.lattice_nodes.specs.Laws.Blocks.{stage-front, stage-inside}
-use Rattle.lattice_crossing.specs.Laws.Crossing.{none-crossed, of-part}
+use Rattle.lattice_stretch.specs.Laws.Crossing.{none-crossed, of-part}
 use Rattle.lattice_crossing.proofs.cross_onward.Statement.{statement}
 use Rattle.lattice_crossing.proofs.cross_onward.Tie as tie
 

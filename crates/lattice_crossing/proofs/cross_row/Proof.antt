@@ -12,8 +12,8 @@ use lib.ListN.{length, take, drop, length-append, length-drop}
 use lib.Seq.{length-take-le}
 use Rattle.lattice_nodes.specs.Steps.{stretch, firstReached, rowEdges}
 use Rattle.lattice_nodes.specs.Laws.FirstReached.{first-low}
-use Rattle.lattice_crossing.specs.Progress.{Crosses}
-use Rattle.lattice_crossing.specs.Laws.Crossing.{none-crossed, kept, paid-for, cut-off, then-more}
+use Rattle.lattice_stretch.specs.Progress.{Crosses}
+use Rattle.lattice_stretch.specs.Laws.Crossing.{none-crossed, kept, paid-for, cut-off, then-more}
 use Rattle.lattice_crossing.proofs.cross_row.Statement.{statement}
 use Rattle.lattice_crossing.proofs.cross_row.Tie as tie
 

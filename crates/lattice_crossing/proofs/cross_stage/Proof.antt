@@ -8,7 +8,7 @@ use lib.Seq.{getD-take, length-take-le}
 use Rattle.lattice_nodes.specs.Steps.{stageEdges}
 use Rattle.lattice_nodes.specs.Laws.FirstReached.{first-low, first-zero}
 use Rattle.lattice_nodes.specs.Laws.Blocks.{stage-front, stage-later}
-use Rattle.lattice_crossing.specs.Laws.Crossing.{ran-out, went-through}
+use Rattle.lattice_stretch.specs.Laws.Crossing.{ran-out, went-through}
 use Rattle.lattice_crossing.proofs.cross_stage.Statement.{statement}
 use Rattle.lattice_crossing.proofs.cross_stage.Tie as tie
 

@@ -9,7 +9,7 @@ use lib.ListN.{length, replicate}
 use Rattle.laws.specs.Laws.Bools.{false-true}
 use Rattle.lattice_nodes.specs.Steps.{updated, heldByte, opened, trail, markedBy}
 use Rattle.lattice_nodes.specs.Laws.Steps.{opened-length}
-use Rattle.lattice_crossing.specs.Progress.{Crosses}
+use Rattle.lattice_stretch.specs.Progress.{Crosses}
 use Rattle.lattice_marks.specs.Settled.{crossed, Settles}
 use Rattle.lattice_marks.proofs.settle.Statement.{statement}
 use Rattle.lattice_marks.proofs.settle.Tie as tie

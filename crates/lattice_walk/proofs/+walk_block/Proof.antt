@@ -17,9 +17,9 @@ use Rattle.lattice_walk.proofs.walk_block.Reads as reads
 use Rattle.lattice_walk.proofs.walk_block.Kinds as kinds
 use Rattle.lattice_walk.proofs.+walk_block.Lts-walk_block as lts
 use Rattle.lattice_crossing.proofs.cross_onward.Reads as cross-onward-reads
-use Rattle.lattice_crossing.proofs.cross_stretch.Reads as cross-stretch-reads
+use Rattle.lattice_stretch.proofs.cross_stretch.Reads as cross-stretch-reads
 use Rattle.lattice_walk.proofs.cross_whole.Reads as cross-whole-reads
-use Rattle.lattice_crossing.proofs.first_reached.Reads as first-reached-reads
+use Rattle.lattice_stretch.proofs.first_reached.Reads as first-reached-reads
 use Rattle.lattice_walk.proofs.walk_rows.Reads as walk-rows-reads
 use Rattle.lattice_walk.proofs.+walk_block.{statement}
 use Rattle.lattice_walk.proofs.+walk_block.Tie.{close}

@@ -15,8 +15,8 @@ use Rattle.lattice_nodes.specs.Laws.Ids.{nodes-some}
 use Rattle.lattice_nodes.specs.Laws.Steps.{weights-length, weight-at, nodes-grow}
 use Rattle.lattice_nodes.specs.Laws.Alike.{Alike}
 use Rattle.lattice_nodes.specs.Laws.Whole.{allParts, whole-walked}
-use Rattle.lattice_crossing.specs.Progress.{Crosses, Split}
-use Rattle.lattice_crossing.specs.Laws.Crossing.{none-crossed, paid-for, kept, reordered, cut-off, then-more}
+use Rattle.lattice_stretch.specs.Progress.{Crosses, Split}
+use Rattle.lattice_stretch.specs.Laws.Crossing.{none-crossed, paid-for, kept, reordered, cut-off, then-more}
 use Rattle.lattice_walk.proofs.cross_whole.Statement.{statement}
 use Rattle.lattice_walk.proofs.cross_whole.Tie as tie
 

@@ -2,7 +2,7 @@
 use mathlib.Core.Path.{_≡_, refl, sym, ap, _∙_}
 use Prim.Native.Nat.{ℕ, zero, suc, _+_, _-_, _<_, _≤_}
 use native.Mathlib.Omega.{arith}
-use native.Mathlib.Nat.{zero-add, suc-add, lt-irrefl, not-suc-le-zero}
+use native.Mathlib.Nat.{zero-add, add-zero, suc-add, lt-irrefl, not-suc-le-zero}
 use native.Mathlib.Numerals.{add-one}
 use mathlib.Core.Bool.{Bool, true, false, not, _||_, cond}
 use borrow.Author.Tests.{lt-ltb, le-ltb, ltb-true, ltb-false, eqb-true, ne-eqb, eq-eqb, not-false}
@@ -15,6 +15,14 @@ use Rattle.laws.specs.Laws.Bools.{false-true}
 pub search-on : (p : ℕ → Bool) (k : ℕ) → firstAt p k ≡ k → p k ≡ false → firstAt p (k + 1) ≡ k + 1
 unfolding firstAt
 search-on p k e n = rw (add-one k) (rw (e, le-ltb k k (omega arith), n))
+
+-- the same for d numbers from k on
+pub search-past : (p : ℕ → Bool) (k d : ℕ) → firstAt p k ≡ k → ((i : ℕ) → i < d → p (k + i) ≡ false)
+    → firstAt p (k + d) ≡ k + d
+search-past p k zero e n = rw (add-zero k) e
+search-past p k (suc d) e n =
+    let q : k + d + 1 ≡ k + suc d = omega arith in
+    rw q at (search-on p (k + d) (search-past p k d e (λ i l. n i (omega arith))) (n d (omega arith)))
 
 hit : (p : ℕ → Bool) (k j : ℕ) → firstAt p k ≡ k → p k ≡ true → firstAt p (suc (j + k)) ≡ k
 unfolding firstAt

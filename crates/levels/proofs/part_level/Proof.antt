@@ -1,10 +1,10 @@
-use mathlib.Core.Path.{_≡_, sym, _∙_}
+use mathlib.Core.Path.{sym, _∙_}
 use Prim.Native.Nat.{_<_}
 use native.Mathlib.Omega.{arith}
 use lib.ListN.{length}
 use borrow.Author.Needs.{needs}
 use Rattle.arith.specs.Laws.Local.{num}
-use Rattle.preference.specs.Parts.{maxLevels, partOf}
+use Rattle.preference.specs.Parts.{maxLevels}
 use Rattle.preference.specs.Laws.Parts.{part-place, level-counted, level-past}
 use Rattle.levels.proofs.part_level.Statement.{statement}
 use Rattle.levels.proofs.part_level.Tie as tie

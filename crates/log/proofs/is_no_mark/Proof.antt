@@ -1,5 +1,4 @@
 use mathlib.Core.Path.{sym, ap}
-use Prim.Native.Nat.{ℕ}
 use native.Mathlib.Omega.{arith}
 use borrow.Author.Needs.{needs}
 use lib.Dec.{ltb}

@@ -5,8 +5,8 @@ use Prim.Native.Nat.{ℕ, _≤_, _-_}
 use native.Mathlib.Omega.{arith}
 use borrow.Author.Needs.{needs}
 use lib.Dec.{ltb}
-use lib.ListN.{getD, length}
-use Rattle.laws.specs.First.{firstAt, anyBelow}
+use lib.ListN.{getD}
+use Rattle.laws.specs.First.{firstAt}
 use Rattle.laws.specs.Laws.First.{search-on, any-hit, any-none}
 use Rattle.laws.specs.Laws.Checks.{gives-yes, gives-no}
 use Rattle.log.specs.Log.{rowCount, markValuesRefusal}

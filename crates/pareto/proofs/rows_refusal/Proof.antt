@@ -1,7 +1,7 @@
 use lib.IntN.{ℤ}
 use mathlib.Core.List.{List}
 use mathlib.Core.Path.{_≡_, refl, sym, _∙_}
-use Prim.Native.Nat.{ℕ, _-_, _/_}
+use Prim.Native.Nat.{ℕ, _-_}
 use Rattle.laws.specs.First.{firstAt, isRefusal}
 use Rattle.laws.specs.Laws.First.{refusal-on, refusal-hit, refusal-none}
 use Rattle.log.specs.Log.{rowCount, rowAt}
@@ -12,7 +12,6 @@ use borrow.Author.Needs.{needs}
 use native.Mathlib.Omega.{arith}
 use Prim.Native.Nat.{ℕ, _≤_, _-_}
 use mathlib.Core.Path.{_≡_}
-use lib.ListN.{length}
 use Rattle.pareto.proofs.rows_refusal.Statement.{statement}
 use Rattle.pareto.proofs.rows_refusal.Tie as tie
 

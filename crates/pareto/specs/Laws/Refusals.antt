@@ -11,7 +11,7 @@ use Rattle.laws.specs.Checks.{_gives_, _then_}
 use Rattle.laws.specs.First.{firstAt, anyBelow, firstRefusal, isRefusal}
 use Rattle.laws.specs.Lists.{anyOf}
 use Rattle.laws.specs.Laws.Bools.{both, either, or-right, false-true}
-use Rattle.log.specs.Log.{Log, rowAt, logRefusal}
+use Rattle.log.specs.Log.{Log, logRefusal}
 use Rattle.constructor.specs.Level.{layeringOf}
 use Rattle.constructor.specs.Valid.{constructorRefusal, layerRefusal, refusalUnder}
 use Rattle.constructor.specs.declared.Constructor.{Constructor}

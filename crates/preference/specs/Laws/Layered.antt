@@ -1,17 +1,17 @@
 -- LAYERED in document 01's words (000, Def. 10): "the layer of the first NAMED with that value, else the layer of other
 -- values."
 use mathlib.Core.Path.{_≡_, refl, sym, ap, _∙_}
-use Prim.Native.Nat.{ℕ, _<_, _≤_}
+use Prim.Native.Nat.{ℕ, _<_}
 use native.Mathlib.Nat.{eq-or-lt-of-le}
 use native.Mathlib.Omega.{arith}
-use mathlib.Core.Bool.{Bool, true, false, _&&_, cond}
+use mathlib.Core.Bool.{Bool, true, false}
 use mathlib.Core.Logic.{⊎-elim}
-use lib.Dec.{eqb, ltb}
+use lib.Dec.{eqb}
 use lib.IntN.{ℤ, pos, negsuc}
 use borrow.Author.Tests.{eq-eqb, eqb-true, lt-ltb, le-ltb}
 use Rattle.laws.specs.First.{firstAt}
 use Rattle.laws.specs.Laws.Bools.{both, false-true}
-use Rattle.laws.specs.Laws.First.{First, first-is, search-hit}
+use Rattle.laws.specs.Laws.First.{first-is, search-hit}
 use Rattle.arith.specs.Gap.{eqZ}
 use Rattle.constructor.specs.Level.{layeringOf}
 use Rattle.constructor.specs.declared.Layering.the-variants.{Layers}

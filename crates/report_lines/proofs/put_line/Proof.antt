@@ -1,7 +1,6 @@
 use mathlib.Core.Path.{ap, _∙_}
 use lib.ListN.{length}
 use borrow.Author.Needs.{needs}
-use native.Mathlib.Omega.{arith}
 use Rattle.log.specs.Laws.Log.{row-long}
 use Rattle.text.specs.Laws.Prints.{prints-same}
 use Rattle.report_lines.specs.Lines.{lineText, fieldsText}

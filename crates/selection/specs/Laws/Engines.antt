@@ -7,13 +7,13 @@ use lib.ListN.{length}
 use borrow.Author.Tests.{eq-eqb, ne-eqb}
 use Rattle.laws.specs.Outcome.{Outcome, accepted, refused}
 use Rattle.laws.specs.Laws.Checks.{then-none}
-use Rattle.log.specs.Log.{Log, rowCount, logRefusal}
+use Rattle.log.specs.Log.{Log, rowCount, logRefusal, marksRefusal}
 use Rattle.log.specs.Laws.Log as runs
 use Rattle.preference.specs.Valid.{listRefusal}
 use Rattle.preference.specs.declared.PreferenceList.{PreferenceList}
 use Rattle.pareto.specs.Call.{counting, Leaves}
-use Rattle.pareto.specs.Checked.{marksRefusal, checkedRefusal}
-use Rattle.pareto.specs.Laws.Call.{refused-leaves, accepted-leaves, accepted-counts, leaves-refused, leaves-accepted}
+use Rattle.pareto.specs.Checked.{checkedRefusal}
+use Rattle.pareto.specs.Laws.Call.{refused-leaves, accepted-leaves, leaves-refused, leaves-accepted}
 use Rattle.lattice.specs.Engine.{latticeRefusal, latticeCall}
 use Rattle.window.specs.Engine.{sizesRefusal, windowRefusal, windowCall}
 use Rattle.selection.specs.Selection.{eitherRefusal, eitherCall}

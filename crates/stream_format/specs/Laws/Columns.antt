@@ -10,7 +10,7 @@ use lib.ListN.{length, length-set}
 use lib.Seq.{getD-set-same, getD-set-other}
 use Rattle.laws.specs.First.{firstAt, anyBelow}
 use Rattle.laws.specs.Laws.First.{first-is}
-use Rattle.preference.specs.List.{zeroPreference, preferenceAt}
+use Rattle.preference.specs.List.{zeroPreference}
 use Rattle.preference.specs.Valid.{hasColumn, taken, preferenceRefusal}
 use Rattle.preference.specs.Laws.Valid.{PreferenceAccepted, preference-accepted}
 use Rattle.preference.specs.declared.Preference.{Preference}

@@ -1,8 +1,8 @@
 -- Reading record by record: what an accepted record has, what each step keeps, and that reading that has ended stays.
 use mathlib.Core.Path.{_≡_, refl, ap, _∙_, sym}
-use Prim.Native.Nat.{ℕ, zero, suc, _+_, _-_, _≤_, _<_}
+use Prim.Native.Nat.{ℕ, zero, suc, _-_, _≤_, _<_}
 use native.Mathlib.Omega.{arith}
-use mathlib.Core.Bool.{Bool, true, false, cond}
+use mathlib.Core.Bool.{Bool, true, false}
 use borrow.Author.Tests.{eq-eqb, ne-eqb, leb-false, eqb-true, ltb-true, ltb-false}
 use lib.Dec.{leb, ltb, eqb}
 use mathlib.Core.List.{List}

@@ -1,6 +1,6 @@
 -- What a call that no check refuses has.
 use mathlib.Core.Path.{_≡_}
-use Prim.Native.Nat.{ℕ, _+_, _*_, _≤_}
+use Prim.Native.Nat.{ℕ, _+_, _*_}
 use native.Mathlib.Omega.{arith}
 use mathlib.Core.Bool.{_||_}
 use lib.Dec.{ltb, eqb}
@@ -8,11 +8,11 @@ use borrow.Author.Tests.{ltb-false, eqb-false}
 use Rattle.laws.specs.Checks.{_gives_, _then_}
 use Rattle.laws.specs.Laws.Bools.{neither}
 use Rattle.laws.specs.Laws.Checks.{gives-none, then-none}
-use Rattle.log.specs.Log.{Log, rowCount, logRefusal}
+use Rattle.log.specs.Log.{Log, rowCount, logRefusal, marksRefusal}
 use Rattle.log.specs.Laws.Log as runs
 use Rattle.preference.specs.Valid.{listRefusal}
 use Rattle.preference.specs.declared.PreferenceList.{PreferenceList}
-use Rattle.pareto.specs.Checked.{marksRefusal, rowsRefusal, checkedRefusal}
+use Rattle.pareto.specs.Checked.{rowsRefusal, checkedRefusal}
 use Rattle.window.specs.Engine.{sizesRefusal, windowRefusal, Runnable}
 
 pub accepted : (l : PreferenceList) (log : Log) (marks work w : ℕ) → windowRefusal l log marks work w ≡ 0

@@ -5,7 +5,7 @@ use native.Mathlib.Omega.{arith}
 use lib.ListN.{length, take}
 use borrow.Author.Needs.{needs}
 use Rattle.window_machine.specs.Machine.{unread}
-use Rattle.window_step.specs.Work.{entries}
+use Rattle.window_entries.specs.Entries.{entries}
 use Rattle.window_passes.proofs.Rows.{rows-none, rows-more, rows-all}
 use Rattle.window_passes.proofs.fill_waiting.Statement.{statement}
 use Rattle.window_passes.proofs.fill_waiting.Tie as tie

@@ -1,8 +1,8 @@
 use mathlib.Core.Path.{refl, sym, ap, _∙_, _≡_}
 use lib.ListN.{getD, set, length-set, length}
 use Rattle.window_machine.specs.Machine.{marked}
-use Rattle.window_step.specs.Work.{entries}
-use Rattle.window_step.specs.Laws.Entries.{mark-one, mark-all-end}
+use Rattle.window_entries.specs.Entries.{entries}
+use Rattle.window_entries.specs.Laws.Entries.{mark-one, mark-all-end}
 use borrow.Author.Needs.{needs}
 use native.Mathlib.Omega.{arith}
 use Prim.Native.Nat.{ℕ, _<_, _-_, _*_}

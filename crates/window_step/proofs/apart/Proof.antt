@@ -5,7 +5,8 @@ use mathlib.Core.Path.{_≡_, _∙_}
 use mathlib.Core.Bool.{true}
 use borrow.Author.Count.{below-more}
 use Rattle.window_machine.specs.Machine.{spares}
-use Rattle.window_step.specs.Work.{tableDominates, entryAt, Undropped}
+use Rattle.window_entries.specs.Entries.{entryAt}
+use Rattle.window_step.specs.Work.{tableDominates, Undropped}
 use Rattle.window_step.proofs.Comparing.{same-bools, apart-undropped, apart-spared}
 use Rattle.window_step.proofs.Scanning.{undropped-start, undropped-more}
 use Rattle.window_step.proofs.apart.Statement.{statement}

@@ -1,8 +1,5 @@
 use borrow.Author.Needs.{needs}
-use native.Mathlib.Omega.{arith}
-use Prim.Native.Nat.{ℕ, _≤_, _<_, _-_, _+_, _*_}
-use mathlib.Core.Path.{_≡_}
-use lib.ListN.{length}
+use Prim.Native.Nat.{_≤_, _-_}
 use Rattle.test_record_trials.proofs.places.preferences_zero.Statement.{statement}
 use Rattle.test_record_trials.proofs.places.preferences_zero.Tie as tie
 use Rattle.test_record_trials.proofs.places.is_zero.Reads as is-zero-reads

@@ -1,8 +1,5 @@
 use borrow.Author.Needs.{needs}
-use native.Mathlib.Omega.{arith}
-use Prim.Native.Nat.{ℕ, _≤_, _<_, _-_, _+_, _*_}
-use mathlib.Core.Path.{_≡_}
-use lib.ListN.{length}
+use Prim.Native.Nat.{_≤_, _-_}
 use Rattle.test_support.proofs.levels_apart.steps.Statement.{statement}
 use Rattle.test_support.proofs.levels_apart.steps.Tie as tie
 use Rattle.test_support.proofs.levels_apart.rest.Reads as rest-reads
