@@ -1,10 +1,9 @@
 //! Compiles the C peer with the compiler that CC names, or cc: -O3 and the x86-64 baseline, as the Rust peer has it. Where BEFORE names
-//! another archive of ours, it is linked too, its calls renamed.
+//! another archive of ours, it and ours are linked too, four times each.
 
 use std::{env, path::Path, path::PathBuf, process::Command};
 
 const FLAGS: [&str; 6] = ["-std=c11", "-O3", "-Wall", "-Wextra", "-Wpedantic", "-Werror"];
-const CALLS: [&str; 2] = ["lattice", "window"];
 const FILES: [&str; 5] = ["read", "window", "lattice", "count", "clock"];
 
 fn main() {
@@ -19,17 +18,17 @@ fn main() {
     println!("cargo:rustc-check-cfg=cfg(before)");
     println!("cargo:rerun-if-env-changed=BEFORE");
     if let Ok(before) = env::var("BEFORE") {
-        rename(&before, &out);
+        place("../target/staticlib/libconsole.a", "ours", &out);
+        place(&before, "before", &out);
+        println!("cargo:rustc-cfg=before");
     }
 }
 
-/// `shortlist_lattice` of that archive becomes `before_lattice`, and so the other call.
-fn rename(archive: &str, out: &Path) {
+/// The calls of an archive at four places, under this name.
+fn place(archive: &str, name: &str, out: &Path) {
     println!("cargo:rerun-if-changed={archive}");
-    let renamed = CALLS.map(|call| format!("--redefine-sym=shortlist_{call}=before_{call}"));
-    must(Command::new("objcopy").args(renamed).arg(archive).arg(out.join("libbefore.a")));
-    println!("cargo:rustc-link-lib=static=before");
-    println!("cargo:rustc-cfg=before");
+    must(Command::new("bash").args(["place", archive, name]).arg(out));
+    println!("cargo:rustc-link-lib=static={name}");
 }
 
 fn compile(file: &str, out: &Path) -> PathBuf {

@@ -11,6 +11,8 @@ mod inputs;
 mod outside;
 mod peers;
 mod picture;
+#[cfg(before)]
+mod placed;
 mod scaling;
 mod table;
 mod timing;

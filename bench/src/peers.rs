@@ -11,16 +11,11 @@ mod c {
         pub fn peer_nested(stream: *const u8, stream_len: usize, marks: *mut u8, marks_len: usize, w: u32) -> i32;
         pub fn peer_window_compares(stream: *const u8, stream_len: usize, w: u32) -> u32;
     }
-    #[cfg(before)]
-    extern "C" {
-        pub fn before_lattice(stream: *const u8, stream_len: usize, marks: *mut u8, marks_len: usize, budget: u32) -> i32;
-        pub fn before_window(stream: *const u8, stream_len: usize, marks: *mut u8, marks_len: usize, w: u32) -> i32;
-    }
 }
 
-type Flat = unsafe extern "C" fn(*const u8, usize, *mut u8, usize, u32) -> i32;
+pub type Flat = unsafe extern "C" fn(*const u8, usize, *mut u8, usize, u32) -> i32;
 
-fn call_c(flat: Flat, stream: &[u8], marks: &mut [u8], number: u32) -> i32 {
+pub fn call_c(flat: Flat, stream: &[u8], marks: &mut [u8], number: u32) -> i32 {
     // Both slices are live and do not overlap: that is all a peer asks.
     unsafe { flat(stream.as_ptr(), stream.len(), marks.as_mut_ptr(), marks.len(), number) }
 }
@@ -48,21 +43,13 @@ pub const BEFORE: &str = "before";
 pub const PEERS: &[Peer] = &[
     Peer { name: "ours", run: |call, stream, marks| Some(raw(call, stream, marks)) },
     #[cfg(before)]
-    Peer { name: BEFORE, run: before },
+    Peer { name: BEFORE, run: |call, stream, marks| Some(crate::placed::BEFORE[0].call(call, stream, marks)) },
     Peer { name: "C", run: in_c },
     Peer { name: "C by nodes", run: in_c_by_nodes },
     Peer { name: "Rust", run: in_rust::<true> },
     Peer { name: "Rust unchecked", run: in_rust::<false> },
     Peer { name: "nested loop", run: nested },
 ];
-
-#[cfg(before)]
-fn before(call: Call, stream: &[u8], marks: &mut [u8]) -> Option<i32> {
-    Some(match call {
-        Call::Lattice { budget } => call_c(c::before_lattice, stream, marks, budget),
-        Call::Window { w } => call_c(c::before_window, stream, marks, w),
-    })
-}
 
 fn in_c(call: Call, stream: &[u8], marks: &mut [u8]) -> Option<i32> {
     Some(match call {

@@ -22,13 +22,17 @@ pub const REPETITIONS: usize = 31;
 const NANOSECONDS: f64 = 2e6;
 
 /// Nanoseconds for one call, over so many calls.
-pub fn once(peer: &Peer, call: Call, stream: &[u8], calls: u32) -> f64 {
+pub fn timed<T>(calls: u32, call: impl Fn(&mut [u8]) -> T) -> f64 {
     let mut marks = [0; 1_024];
     let begin = now();
     for _ in 0..calls {
-        black_box(peer.call(call, black_box(stream), black_box(&mut marks)));
+        black_box(call(black_box(&mut marks)));
     }
     (now() - begin) as f64 / f64::from(calls)
+}
+
+pub fn once(peer: &Peer, call: Call, stream: &[u8], calls: u32) -> f64 {
+    timed(calls, |marks| peer.call(call, black_box(stream), marks))
 }
 
 /// How many calls make a repetition; asking warms the caches up.
@@ -60,7 +64,7 @@ fn timers<'a>(case: &'a Case, others: &'a mut [Outside], out: &Path) -> Vec<Opti
     timers
 }
 
-fn cell(ours: &[f64], theirs: &[f64]) -> String {
+pub fn cell(ours: &[f64], theirs: &[f64]) -> String {
     let ratios: Vec<f64> = ours.iter().zip(theirs).map(|(a, b)| a / b).collect();
     let (middle, low, high) = (quantile(&ratios, 0.5), quantile(&ratios, 0.1), quantile(&ratios, 0.9));
     format!("{} ({}..{})", short(middle), short(low), short(high))
@@ -86,7 +90,10 @@ fn measure(case: &Case, others: &mut [Outside], out: &Path) -> Vec<String> {
         }
     }
     let mut row = vec![case.name.clone(), short(quantile(&times[0], 0.5) / 1e3)];
-    row.extend(times[1..].iter().map(|theirs| if theirs.is_empty() { "-".into() } else { cell(&times[0], theirs) }));
+    #[cfg(before)]
+    row.push(crate::placed::column(case));
+    let shown = row.len() - 1;
+    row.extend(times[shown..].iter().map(|theirs| if theirs.is_empty() { "-".into() } else { cell(&times[0], theirs) }));
     row
 }
 
