@@ -35,6 +35,7 @@ fn enter_all(nodes: &mut [u8])
 }
 
 // Crosses d edges, one to each of the nodes that stand side by side from `from` on, if the budget is enough for all.
+// One edge alone, of which some lattices have thousands, takes no loop.
 pub fn cross_stretch(nodes: &mut [u8], from: usize, d: usize, made: u32, budget: u32) -> Progress
     requires { ⌜ from + d ≤ length (now nodes) ⌝ }
     requires { ⌜ made ≤ budget ⌝ }
@@ -43,6 +44,13 @@ pub fn cross_stretch(nodes: &mut [u8], from: usize, d: usize, made: u32, budget:
     let left = (budget - made) as usize;
     if left < d {
         return Progress { ok: false, made };
+    }
+    if d == 1 {
+        nodes[from] = enter(nodes[from]);
+        return Progress {
+            ok: true,
+            made: made + 1,
+        };
     }
     let to = from + d;
     enter_all(&mut nodes[from..to]);
