@@ -1,6 +1,6 @@
 // Exact arithmetic on values of 32 bits: how far one lies above another, and division rounded up.
 ghost use mathlib.Core.Path.{_≡_};
-ghost use Prim.Native.Nat.{_+_, _<_};
+ghost use Prim.Native.Nat.{_+_, _-_, _<_};
 ghost use lib.Signed.{leZ};
 ghost use Rattle.limits.specs.Limits.{u32End};
 ghost use Rattle.arith.specs.Gap.{gap, eqZ};
@@ -57,4 +57,11 @@ pub fn wide(x: u8) -> usize
     ensures { λ r. ⌜ r ≡ x ⌝ }
 {
     x as usize
+}
+
+// The place before one; 0 of 0.
+pub fn place_before(k: usize) -> usize
+    ensures { λ r. ⌜ r ≡ k - 1 ⌝ }
+{
+    if k == 0 { 0 } else { k - 1 }
 }

@@ -1,5 +1,5 @@
 // The walk of the lattice engine (000, 6.1), on weights and node bytes: upward over the edges that leave reached nodes,
-// a recursion over the parts that has `lattice_crossing` cross them.
+// a recursion over the parts that has `lattice_stretch` and `lattice_crossing` cross them.
 use lattice_stretch::Progress;
 ghost use mathlib.Core.Path.{_≡_};
 ghost use Prim.Native.Nat.{_≤_};

@@ -1,7 +1,8 @@
-// The preference list (document 01: wish list): its types and its check. Its specs say too what crate levels answers.
+// The preference list (document 01: wish list): its types and its check. Its specs say too what `layers` and `levels`
+// answer.
 use constructor::Constructor;
 ghost use mathlib.Core.Path.{_≡_};
-ghost use Prim.Native.Nat.{_-_, _<_, _≤_, min};
+ghost use Prim.Native.Nat.{_<_, _≤_, min};
 ghost use Rattle.limits.specs.Limits.{maxWishes, maxNamed};
 ghost use Rattle.laws.specs.Checks.{_then_};
 ghost use Rattle.laws.specs.First.{firstRefusal};
@@ -21,8 +22,8 @@ pub struct Named {
     pub layer: u8,
 }
 
-// The first `count` preferences and the first `namings` named values are the list; what stands past them is no part of
-// it. The fields are wide enough to hold figures that are refused.
+// The first `count` preferences and the first `namedcount` named values are the list; what stands past them is no
+// part of it. The fields are wide enough to hold figures that are refused.
 pub struct PreferenceList {
     pub count: u32,
     pub preferences: [Preference; limits::MAX_WISHES],
@@ -136,13 +137,6 @@ fn places_refusal(list: PreferenceList, n: usize) -> u8
     0
 }
 
-// The place before one; 0 of 0.
-pub fn place_before(k: usize) -> usize
-    ensures { λ r. ⌜ r ≡ k - 1 ⌝ }
-{
-    if k == 0 { 0 } else { k - 1 }
-}
-
 // The named value at place k: 3 for no such preference or one before the last named value's, then its layer's number.
 fn named_refusal(list: PreferenceList, k: usize) -> u8
     requires { ⌜ (list .count ≤ maxWishes) × (k < maxNamed) ⌝ }
@@ -155,7 +149,7 @@ fn named_refusal(list: PreferenceList, k: usize) -> u8
     if count <= at {
         return 3;
     }
-    let b = place_before(k);
+    let b = arith::place_before(k);
     let d = list.named[b];
     if owner < d.preference {
         return 3;

@@ -16,7 +16,7 @@ fn last_constructor(list: PreferenceList) -> Constructor
     requires { ⌜ list .count ≤ 8 ⌝ }
     ensures { λ r. ⌜ r ≡ lastConstructor list ⌝ }
 {
-    let i = preference::place_before(list.count as usize);
+    let i = arith::place_before(list.count as usize);
     let p = list.preferences[i];
     p.constructor
 }

@@ -84,7 +84,7 @@ fn with_named(list: PreferenceList, t: &[u8]) -> PreferenceList
 {
     let before = list.namedcount;
     let i = before as usize;
-    let owner = preference::place_before(list.count as usize) as u8;
+    let owner = arith::place_before(list.count as usize) as u8;
     let value = word::get_i32(t, 1);
     let layer = word::get_u8(t, 5);
     let mut grown = list;
