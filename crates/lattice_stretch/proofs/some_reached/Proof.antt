@@ -1,11 +1,11 @@
+use borrow.Author.Count.{below-more}
 use borrow.Author.Needs.{needs}
 use native.Mathlib.Omega.{arith}
 use Prim.Native.Nat.{ℕ, _≤_, _<_, _-_, _+_}
 use mathlib.Core.Path.{_≡_}
-use mathlib.Core.Logic.{⊎-elim}
 use mathlib.Core.Bool.{Bool, false, not, _||_}
 use mathlib.Core.List.{List}
-use native.Mathlib.Nat.{eq-or-lt-of-le, not-suc-le-zero}
+use native.Mathlib.Nat.{not-suc-le-zero}
 use lib.Dec.{eqb}
 use lib.ListN.{getD}
 use borrow.Author.Tests.{eqb-true, not-false}
@@ -22,10 +22,9 @@ abbrev μ-loop : tie.MeasureT-loop
 more : (nodes : List ℕ) (f i : ℕ) (some : Bool) → (some ≡ false → (k : ℕ) → k < i → getD nodes (f + k) 0 ≡ 0)
     → some || not (eqb (getD nodes (f + i) 0) 0) ≡ false
     → (k : ℕ) → k < i + 1 → getD nodes (f + k) 0 ≡ 0
-more nodes f i some h e k u =
+more nodes f i some h e =
     let n = neither some (not (eqb (getD nodes (f + i) 0) 0)) e in
-    let low : k ≤ i = omega arith in
-    ⊎-elim (λ (q : k ≡ i). rw q (eqb-true (getD nodes (f + i) 0) 0 (not-false _ (n .1)))) (λ (q : k < i). h (n .0) k q) (eq-or-lt-of-le low)
+    below-more (λ (k : ℕ). getD nodes (f + k) 0 ≡ 0) i (h (n .0)) (eqb-true (getD nodes (f + i) 0) 0 (not-false _ (n .1)))
 
 loop-holds : tie.Need-loop-holds Inv-loop μ-loop
 loop-holds c = (omega arith, λ e k u. absurd (not-suc-le-zero u))

@@ -1,10 +1,10 @@
+use borrow.Author.Count.{below-more}
 use borrow.Author.Needs.{needs}
 use native.Mathlib.Omega.{arith}
 use Prim.Native.Nat.{ℕ, _≤_, _<_, _-_, _+_}
 use mathlib.Core.Path.{_≡_}
-use mathlib.Core.Logic.{⊎-elim}
 use mathlib.Core.Bool.{Bool, false, _||_}
-use native.Mathlib.Nat.{eq-or-lt-of-le, not-suc-le-zero}
+use native.Mathlib.Nat.{not-suc-le-zero}
 use mir.Val.{toZ, ofZ}
 use mir.Syntax.{w32}
 use Rattle.arith.specs.Laws.Local.{num}
@@ -22,10 +22,7 @@ abbrev μ-loop : tie.MeasureT-loop
 more : (p : ℕ → Bool) (k i : ℕ) (some : Bool) → (some ≡ false → (j : ℕ) → j < i → p (k + j) ≡ false)
     → some || p (k + i) ≡ false
     → (j : ℕ) → j < i + 1 → p (k + j) ≡ false
-more p k i some h e j u =
-    let n = neither some (p (k + i)) e in
-    let low : j ≤ i = omega arith in
-    ⊎-elim (λ (q : j ≡ i). rw q (n .1)) (λ (q : j < i). h (n .0) j q) (eq-or-lt-of-le low)
+more p k i some h e = let n = neither some (p (k + i)) e in below-more (λ (j : ℕ). p (k + j) ≡ false) i (h (n .0)) (n .1)
 
 loop-holds : tie.Need-loop-holds Inv-loop μ-loop
 loop-holds c = (omega arith, λ e j u. absurd (not-suc-le-zero u))
