@@ -26,7 +26,7 @@ use Rattle.lattice.specs.Engine.{latticeCall, nodesLeft}
 use Rattle.window.specs.Engine.{windowCall, WorkLeft}
 use Rattle.dominator.specs.Engine.{dominatorRefusal, RefusedBy}
 use Rattle.console.specs.Flat.{flatLatticeCall, flatWindowCall}
-use Rattle.report.specs.Report.{reportCall}
+use Rattle.selection.specs.Stream.{programCall}
 use Rattle.demands.specs.Refusals.{levelRefusals, readRefusals, writeRefusals, latticeRefusals, windowRefusals}
 use Rattle.demands.specs.Refusals.{dominatorRefusals}
 use Rattle.demands.specs.Refusals.{flatLatticeRefusals, flatWindowRefusals, programRefusals}
@@ -116,5 +116,5 @@ module _ (s marks marks′ : List ℕ) (k : ℕ) where
       (flat-window-among s (length marks) w) marks marks′ k
 
 -- the program's `refused N`
-pub program-refused : (s : List ℕ) → (reportCall s .refusal ≡ 0 → ⊥) → Among programRefusals (reportCall s .refusal)
-program-refused s h = among-some programRefusals (reportCall s .refusal) h (program-among s)
+pub program-refused : (s : List ℕ) → (programCall s .refusal ≡ 0 → ⊥) → Among programRefusals (programCall s .refusal)
+program-refused s h = among-some programRefusals (programCall s .refusal) h (program-among s)

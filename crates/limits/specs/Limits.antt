@@ -57,6 +57,11 @@ programWindow = 64
 abbrev pub maxStreamBytes : ℕ
 maxStreamBytes = 34334
 
+-- how many bytes the longest shift sheet has: 1,024 runs on 21 pages, 102 bytes a line (document 02, order 1;
+-- sheet_pages/specs/Laws/Pages.antt: `pages-short`)
+abbrev pub maxSheetBytes : ℕ
+maxSheetBytes = 108732
+
 -- a number of 32 bits is below this
 abbrev pub u32End : ℕ
 u32End = 2 ^ 32

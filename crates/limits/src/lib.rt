@@ -37,3 +37,6 @@ pub const PROGRAM_WINDOW: u32 = 64;
 
 // How many bytes the longest accepted stream has.
 pub const MAX_STREAM_BYTES: usize = 34334;
+
+// How many bytes the longest shift sheet has.
+pub const MAX_SHEET_BYTES: usize = 108732;

@@ -8,6 +8,7 @@ use lib.IntN.{ℤ}
 use Rattle.limits.specs.Limits.{columns, maxValues}
 use Rattle.laws.specs.Checks.{_gives_}
 use Rattle.laws.specs.First.{anyBelow}
+use Rattle.laws.specs.Lists.{passing}
 
 -- what engines, marks and numbers are said of; a later order adds what else a log says of its rows as a field
 pub record Log : Type 0 where
@@ -35,3 +36,7 @@ marksRefusal log marks = ltb marks (rowCount log) gives 10
 -- document 02, orders 1 and 11: "14, a row's mark not 0 or 1"; a mark that is not there reads as 0
 unfoldable pub markValuesRefusal : List ℤ → List ℕ → ℕ
 markValuesRefusal log marks = anyBelow (λ r. ltb 1 (getD marks r 0)) (rowCount log) gives 14
+
+-- the rows below n that a byte of 1 marks, in order
+unfoldable pub markedRows : List ℕ → ℕ → List ℕ
+markedRows marks n = passing (λ r. eqb (getD marks r 0) 1) n

@@ -3,8 +3,7 @@ use mathlib.Core.Path.{_≡_}
 use Prim.Native.Nat.{ℕ, _<_}
 use mathlib.Core.Bool.{Bool, true, not, _&&_, cond}
 use mathlib.Core.List.{List, [], _∷_, _++_, map}
-use lib.Dec.{eqb}
-use lib.ListN.{drop, getD}
+use lib.ListN.{drop}
 use Rattle.laws.specs.Lists.{joined, passing, anyOf}
 use Rattle.log.specs.Log.{Log, rowCount, rowAt}
 use Rattle.preference.specs.Parts.{levels}
@@ -54,7 +53,3 @@ marksOf l log = joined (λ r. markAt l log r ∷ []) (rowCount (log .values))
 -- the lent bytes after an accepted call: "Bytes past the rows .. are unchanged."
 unfoldable pub marksAfter : PreferenceList → Log → List ℕ → List ℕ
 marksAfter l log marks = marksOf l log ++ drop (rowCount (log .values)) marks
-
--- the rows below n that are marked
-unfoldable pub markedRows : List ℕ → ℕ → List ℕ
-markedRows marks n = passing (λ r. eqb (getD marks r 0) 1) n

@@ -6,14 +6,12 @@ use mathlib.Core.List.{List, [], _++_}
 use lib.Dec.{eqb}
 use lib.ListN.{length, take}
 use lib.Seq.{sets}
-use Rattle.limits.specs.Limits.{maxRuns}
 use Rattle.laws.specs.Lists.{joined}
 use Rattle.log.specs.Log.{Log, rowCount}
 use Rattle.preference.specs.declared.PreferenceList.{PreferenceList}
 use Rattle.pareto.specs.Best.{isBest}
 use Rattle.pareto.specs.Call.{Call}
-use Rattle.selection.specs.Selection.{eitherCall}
-use Rattle.selection.specs.Stream.{afterReading}
+use Rattle.selection.specs.Stream.{programCall}
 use Rattle.report_lines.specs.Lines.{refusedText, headText, lineText}
 
 -- a line for each shortlisted row, in order
@@ -26,12 +24,8 @@ textOf c =
     cond (eqb (c .refusal) 0) (headText (rowCount (c .log .values)) (c .value) ++ linesText (c .list) (c .log))
     (refusedText (c .refusal))
 
--- the program's call on a stream: it has a mark byte for each row that a log can have
-abbrev pub reportCall : List ℕ → Call
-reportCall s = afterReading s (λ l log. eitherCall l log maxRuns)
-
 unfoldable pub reportOf : List ℕ → List ℕ
-reportOf s = textOf (reportCall s)
+reportOf s = textOf (programCall s)
 
 -- how many bytes the program keeps for its report
 abbrev pub reportEnd : ℕ

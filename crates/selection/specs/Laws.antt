@@ -1,3 +1,4 @@
 pub mod Counted
 pub mod Engines
 pub mod Stream
+pub mod Cut

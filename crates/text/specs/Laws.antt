@@ -1,4 +1,5 @@
 pub mod Text
 pub mod Prints
 pub mod Sign
+pub mod Characters
 pub mod Examples

@@ -26,3 +26,11 @@ sign (negsuc n) = letters "-"
 
 unfoldable pub signed : ℤ → List ℕ
 signed z = sign z ++ decimal (natAbs z)
+
+-- the point, and the two figures behind it, of so many hundredths
+abbrev pub decimals : ℕ → List ℕ
+decimals n = code "." ∷ figure (n / 10 % 10) ∷ figure (n % 10) ∷ []
+
+-- a number of hundredths; document 02, order 1: "with two decimals (−5 is `-0.05`)"
+unfoldable pub hundredths : ℤ → List ℕ
+hundredths z = sign z ++ decimal (natAbs z / 100) ++ decimals (natAbs z)

@@ -3,7 +3,7 @@
 ghost use mathlib.Core.Path.{_≡_};
 ghost use mathlib.Core.List.{[], _∷_};
 ghost use lib.IntN.{natAbs};
-ghost use Rattle.text.specs.Text.{decimal, sign, signed};
+ghost use Rattle.text.specs.Text.{decimal, sign, signed, decimals, hundredths};
 ghost use Rattle.text.specs.Prints.{Prints};
 
 // No text goes past this place, so that no place can wrap.
@@ -67,4 +67,26 @@ pub fn put_signed(out: &mut [u8], at: usize, v: i32) -> usize
 {
     let next = put_sign(out, at, v);
     put_decimal(out, next, magnitude(v))
+}
+
+// A whole is so many hundredths.
+const WHOLE: u64 = 100;
+
+// The point and the two figures after it.
+fn put_decimals(out: &mut [u8], at: usize, size: u64) -> usize
+    ensures { λ r. ⌜ Prints (now (out .entry)) (now (out .exit)) at r (decimals size) ⌝ }
+{
+    let after_point = put_byte(out, at, b'.');
+    let after_tenths = put_byte(out, after_point, (ZERO + size / 10 % 10) as u8);
+    put_byte(out, after_tenths, (ZERO + size % 10) as u8)
+}
+
+// The number v of hundredths, with two decimals. The sign is that of v, so that it stays where the whole part is 0.
+pub fn put_hundredths(out: &mut [u8], at: usize, v: i32) -> usize
+    ensures { λ r. ⌜ Prints (now (out .entry)) (now (out .exit)) at r (hundredths v) ⌝ }
+{
+    let size = magnitude(v);
+    let after_sign = put_sign(out, at, v);
+    let after_whole = put_decimal(out, after_sign, size / WHOLE);
+    put_decimals(out, after_whole, size)
 }

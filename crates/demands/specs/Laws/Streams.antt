@@ -24,9 +24,8 @@ use Rattle.stream_format.specs.Read.{records, endRefusal, readOf}
 use Rattle.stream_format.specs.Laws.Longest.{rows-at-most}
 use Rattle.stream_format.specs.Laws.Rows.{values-long, values-fit}
 use Rattle.selection.specs.Selection.{eitherRefusal}
-use Rattle.selection.specs.Stream.{listIn, logIn}
+use Rattle.selection.specs.Stream.{listIn, logIn, programCall}
 use Rattle.console.specs.Flat.{flatLatticeCall, flatWindowCall}
-use Rattle.report.specs.Report.{reportCall}
 use Rattle.demands.specs.Refusals.{readRefusals, latticeRefusals, windowRefusals, flatLatticeRefusals}
 use Rattle.demands.specs.Refusals.{flatWindowRefusals, programRefusals}
 use Rattle.demands.specs.Laws.Counts.{sizes-refusal}
@@ -113,7 +112,7 @@ module _ (l : PreferenceList) (log : Log) (g : logRefusal (log .values) ≡ 0) (
       go true e = window-program
       go false e = rw e at lattice-program
 
-pub program-among : (s : List ℕ) → Among (0 ∷ programRefusals) (reportCall s .refusal)
+pub program-among : (s : List ℕ) → Among (0 ∷ programRefusals) (programCall s .refusal)
 program-among s = go (eqb (readOf s 8192 .refusal) 0) refl
   where
     either : ℕ

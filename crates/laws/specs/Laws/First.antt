@@ -110,6 +110,14 @@ any-at p n k l h = found-at (ltb (firstAt p n) n) refl
         let f = first-is p n .before k (omega arith) in
         false-true (sym f ∙ h)
 
+-- nothing holds anywhere
+pub none-any : (p : ℕ → Bool) (n : ℕ) → ((i : ℕ) → i < n → p i ≡ false) → anyBelow p n ≡ false
+none-any p n h = by-answer (anyBelow p n) refl
+  where
+    by-answer : (t : Bool) → anyBelow p n ≡ t → t ≡ false
+    by-answer true e = let f = any-found p n e in false-true (sym (h (f .0) (f .1)) ∙ f .2)
+    by-answer false e = refl
+
 none-found : (f : ℕ → ℕ) (n k : ℕ) → First (isRefusal f) n k → (t : Bool) → ltb k n ≡ t → cond t (f k) 0 ≡ 0 → n ≤ k
 none-found f n k h false e z = ltb-false k n e
 none-found f n k h true e z =

@@ -7,8 +7,8 @@ use borrow.Author.Tests.{eq-eqb, ne-eqb}
 use Rattle.laws.specs.Outcome.{Outcome, accepted, refused, outcome}
 use Rattle.laws.specs.Laws.Outcome.{outcome-accepted, outcome-refused, accepted-refusal, accepted-value}
 use Rattle.laws.specs.Laws.Outcome.{refused-refusal}
-use Rattle.log.specs.Log.{rowCount}
-use Rattle.pareto.specs.Best.{marksAfter, markedRows}
+use Rattle.log.specs.Log.{rowCount, markedRows}
+use Rattle.pareto.specs.Best.{marksAfter}
 use Rattle.pareto.specs.Call.{Call, counting, marksLeft, Leaves}
 use Rattle.pareto.specs.Laws.Marks.{marked-best}
 

@@ -7,9 +7,9 @@ use mathlib.Core.List.{List, [], _∷_}
 use lib.Dec.{eqb}
 use lib.ListN.{getD, drop, List·getD-append}
 use Rattle.laws.specs.Laws.Joined.{joined-cong, singles-at, singles-length}
-use Rattle.log.specs.Log.{Log, rowCount}
+use Rattle.log.specs.Log.{Log, rowCount, markedRows}
 use Rattle.preference.specs.declared.PreferenceList.{PreferenceList}
-use Rattle.pareto.specs.Best.{isBest, bestMatches, markAt, marksOf, marksAfter, markedRows}
+use Rattle.pareto.specs.Best.{isBest, bestMatches, markAt, marksOf, marksAfter}
 
 module _ (l : PreferenceList) (log : Log) where
   -- a row's byte is its mark

@@ -23,33 +23,16 @@ use Rattle.text.specs.Laws.Prints.{prints-whole, prints-same}
 use Rattle.report_lines.specs.Lines.{refusedText, headText, lineText, markedText}
 use Rattle.report_lines.specs.Laws.Lengths.{Values, refused-short, head-short, lines-short}
 use Rattle.word.specs.Laws.Word.{Bytes}
-use Rattle.lattice.specs.Engine.{latticeRefusal}
-use Rattle.window.specs.Engine.{windowRefusal}
 use Rattle.stream_format.specs.Read.{readOf, logAfter}
 use Rattle.stream_format.specs.declared.ReadAnswer.{ReadAnswer}
 use Rattle.selection.specs.Selection.{eitherRefusal, eitherCall}
-use Rattle.selection.specs.Stream.{listIn, logIn}
-use Rattle.selection.specs.Laws.Counted.{count-few}
-use Rattle.selection.specs.Laws.Engines.{lattice-few, window-few}
-use Rattle.selection.specs.Laws.Stream.{blank, answer, none, rows-are}
+use Rattle.selection.specs.Stream.{listIn, logIn, programCall}
+use Rattle.selection.specs.Laws.Engines.{either-few, best-few}
+use Rattle.selection.specs.Laws.Stream.{blank, unread-refusal, read-call}
 use Rattle.report.specs.Laws.Values.{values-fit}
-use Rattle.report.specs.Report.{linesText, textOf, reportCall, reportOf, Reported}
+use Rattle.report.specs.Report.{linesText, textOf, reportOf, Reported}
 
 -- ---- a selection's text
-
--- an accepted call has at most 1,024 rows, and no more shortlisted ones
-pub rows-most : (l : PreferenceList) (log : Log) (marks : ℕ) → eitherRefusal l log marks ≡ 0
-    → rowCount (log .values) ≤ 1024
-unfolding eitherRefusal
-rows-most l log marks e = by-engine (eqb (latticeRefusal l log marks 32768 262144) 9) e
-  where
-    by-engine : (t : Bool) → cond t (windowRefusal l log marks 4096 64) (latticeRefusal l log marks 32768 262144) ≡ 0
-        → rowCount (log .values) ≤ 1024
-    by-engine true z = window-few l log marks 4096 64 z
-    by-engine false z = lattice-few l log marks 32768 262144 z
-
-best-most : (l : PreferenceList) (log : Log) → length (bestMatches l log) ≤ rowCount (log .values)
-best-most l log = rw (sym (marked-best l log [])) (count-few (marksAfter l log []) (rowCount (log .values)))
 
 -- the marked rows' lines are those of the shortlist
 marked-lines : (l : PreferenceList) (log : Log) (bytes : List ℕ)
@@ -85,7 +68,7 @@ module _ (c : Call) where
   unfolding linesText
   whole-short v f h =
       let n = rowCount (c .log .values) in
-      let b = best-most (c .list) (c .log) in
+      let b = best-few (c .list) (c .log) in
       omega (
         arith,
         length-append (headText n (c .value)) (linesText (c .list) (c .log)),
@@ -126,39 +109,34 @@ reported {out} {last} {end} {x} h p =
     let q = prints-whole out last 0 end x (omega arith) p in
     record { end-is = omega (arith, q .next-is); last-is = q .last-is; short = omega (arith, q .next-is) }
 
-few-rows : (s : List ℕ) → reportCall s .refusal ≡ 0 → rowCount (logIn s .values) ≤ 1024
-few-rows s e = rows-most (listIn s) (logIn s) 1024 (then-none (readOf s 8192 .refusal) _ e .1)
+few-rows : (s : List ℕ) → programCall s .refusal ≡ 0 → rowCount (logIn s .values) ≤ 1024
+few-rows s e = either-few (listIn s) (logIn s) 1024 (then-none (readOf s 8192 .refusal) _ e .1)
 
 -- the whole text of a stream of bytes, 32,768 of them at most
-pub report-short : (s : List ℕ) → Bytes s → reportCall s .refusal < 4294967296 → length (reportOf s) ≤ 29716
+pub report-short : (s : List ℕ) → Bytes s → programCall s .refusal < 4294967296 → length (reportOf s) ≤ 29716
 unfolding reportOf
-report-short s b h = text-short (reportCall s) refl h (values-fit s b) (few-rows s)
+report-short s b h = text-short (programCall s) refl h (values-fit s b) (few-rows s)
 
 module _ (s : List ℕ) (r : ReadAnswer) (log : List ℤ) (a : r ≡ readOf s (length blank)) (f : log ≡ logAfter s blank)
     (b : Bytes s) where
+  abbrev due : PreferenceList → Log → Call
+  due l rows = eitherCall l rows 1024
+
   pub unread-reports : {out last : List ℕ} {end : ℕ} → (r .refusal ≡ 0 → ⊥) → r .refusal < 4294967296
       → Prints out last 0 end (refusedText (r .refusal)) → Reported out last end (reportOf s)
   unfolding reportOf
   unread-reports z h p =
-      let n = ap (λ (y : ReadAnswer). y .refusal) (answer s r log a f) in
-      let k : reportCall s .refusal ≡ r .refusal =
-      then-first (readOf s 8192 .refusal) (eitherRefusal (listIn s) (logIn s) 1024) (λ q. z (n ∙ q)) ∙ sym n in
+      let k = unread-refusal s r log a f due z in
       let t : refusedText (r .refusal) ≡ reportOf s =
-      ap refusedText (sym k) ∙ refusal-text (reportCall s) (λ q. z (sym k ∙ q)) in
+      ap refusedText (sym k) ∙ refusal-text (programCall s) (λ q. z (sym k ∙ q)) in
       reported (report-short s b (omega arith)) (prints-same t p)
 
   pub read-reports : {out last : List ℕ} {end : ℕ} → r .refusal ≡ 0
       → eitherRefusal (r .list) (logOf (take (8 * r .rows) log)) 1024 < 4294967296
       → Prints out last 0 end (textOf (eitherCall (r .list) (logOf (take (8 * r .rows) log)) 1024))
       → Reported out last end (reportOf s)
-  unfolding reportOf textOf
+  unfolding reportOf
   read-reports z h p =
-      let list : r .list ≡ listIn s = ap (λ (y : ReadAnswer). y .list) (answer s r log a f) in
-      let rows = rows-are s r log a f z in
-      let either = eitherCall (listIn s) (logIn s) 1024 in
-      let k : reportCall s .refusal ≡ either .refusal =
-      then-next (readOf s 8192 .refusal) (either .refusal) (none s r log a f z) in
-      let small : either .refusal < 4294967296 = rw (rows, list) at h in
-      let t : textOf either ≡ reportOf s =
-      ap (λ (i : ℕ). cond (eqb i 0) (whole either) (refusedText i)) (sym k) in
-      reported (report-short s b (omega arith)) (prints-same t (rw (rows, list) at p))
+      let same = read-call s r log a f due z in
+      let small : programCall s .refusal < 4294967296 = omega (arith, ap (λ (c : Call). c .refusal) same) in
+      reported (report-short s b small) (prints-same (ap textOf same) p)

@@ -5,14 +5,13 @@ use native.Mathlib.Omega.{arith}
 use native.Mathlib.Nat.{suc-mul}
 use mathlib.Core.Bool.{Bool, true, false, cond}
 use mathlib.Core.List.{List, []}
-use lib.IntN.{ℤ, pos, negsuc}
+use lib.IntN.{ℤ, pos}
 use lib.Signed.{mag}
 use lib.ListN.{length, getD, drop, length-append}
 use lib.Seq.{getD-take, getD-drop}
 use Rattle.laws.specs.Lists.{joined}
 use Rattle.log.specs.Log.{rowAt}
-use Rattle.text.specs.Text.{signed}
-use Rattle.text.specs.Laws.Text.{decimal-short, signed-short}
+use Rattle.text.specs.Laws.Text.{decimal-short, value-short}
 use Rattle.report_lines.specs.Lines.{refusedText, headText, fieldsText, lineText}
 
 joined-short : (f : ℕ → List ℕ) (w n : ℕ) → ((i : ℕ) → i < n → length (f i) ≤ w) → length (joined f n) ≤ n * w
@@ -31,10 +30,6 @@ pub head-short : (rows best : ℕ) → rows ≤ 1024 → best ≤ 1024 → lengt
 unfolding headText
 head-short rows best h i =
     simp length-append (omega (arith, decimal-short 3 rows (omega arith), decimal-short 3 best (omega arith)))
-
-value-short : (z : ℤ) → mag z < 2147483648 → length (signed z) ≤ 11
-value-short (pos n) h = signed-short 9 (pos n) (omega arith)
-value-short (negsuc n) h = signed-short 9 (negsuc n) (omega arith)
 
 fields-short : (r : ℕ) (row : List ℤ) → r < 10000 → mag (getD row 0 (pos 0)) < 2147483648
     → mag (getD row 1 (pos 0)) < 2147483648 → length (fieldsText r row) ≤ 29

@@ -6,8 +6,7 @@ use lib.ListN.{length}
 use Rattle.selection.proofs.count_marked.Statement.{statement}
 use Rattle.selection.proofs.count_marked.Tie as tie
 use Rattle.selection.proofs.marked.Reads as marked-reads
-use Rattle.log.specs.Log.{rowCount}
-use Rattle.pareto.specs.Best.{markedRows}
+use Rattle.log.specs.Log.{rowCount, markedRows}
 use Rattle.laws.specs.Lists.{joined}
 use Rattle.selection.specs.Laws.Counted.{count-more, count-few}
 use mathlib.Core.Path.{ap, _∙_}

@@ -2,7 +2,9 @@
 use mathlib.Core.Path.{_≡_, sym, _∙_}
 use Prim.Native.Nat.{ℕ, _≤_}
 use native.Mathlib.Omega.{arith}
-use mathlib.Core.List.{List}
+use mathlib.Core.Bool.{Bool, true, false, cond}
+use mathlib.Core.List.{List, []}
+use lib.Dec.{eqb}
 use lib.ListN.{length}
 use borrow.Author.Tests.{eq-eqb, ne-eqb}
 use Rattle.laws.specs.Outcome.{Outcome, accepted, refused}
@@ -11,33 +13,64 @@ use Rattle.log.specs.Log.{Log, rowCount, logRefusal, marksRefusal}
 use Rattle.log.specs.Laws.Log as runs
 use Rattle.preference.specs.Valid.{listRefusal}
 use Rattle.preference.specs.declared.PreferenceList.{PreferenceList}
+use Rattle.pareto.specs.Best.{bestMatches, marksAfter}
 use Rattle.pareto.specs.Call.{counting, Leaves}
 use Rattle.pareto.specs.Checked.{checkedRefusal}
 use Rattle.pareto.specs.Laws.Call.{refused-leaves, accepted-leaves, leaves-refused, leaves-accepted}
+use Rattle.pareto.specs.Laws.Marks.{marked-best}
 use Rattle.lattice.specs.Engine.{latticeRefusal, latticeCall}
 use Rattle.window.specs.Engine.{sizesRefusal, windowRefusal, windowCall}
 use Rattle.selection.specs.Selection.{eitherRefusal, eitherCall}
+use Rattle.selection.specs.Laws.Counted.{count-few}
 
--- ---- an accepted call has at most 1,024 rows
+-- ---- the log of an accepted call is accepted, and has at most 1,024 rows
 
-checked-few : (l : PreferenceList) (log : Log) (more : ℕ) → checkedRefusal l log more ≡ 0
-    → rowCount (log .values) ≤ 1024
+checked-log : (l : PreferenceList) (log : Log) (more : ℕ) → checkedRefusal l log more ≡ 0
+    → logRefusal (log .values) ≡ 0
 unfolding checkedRefusal
-checked-few l log more z =
-    runs.accepted (log .values) (then-none (logRefusal (log .values)) _ (then-none (listRefusal l) _ z .1) .0) .few
+checked-log l log more z = then-none (logRefusal (log .values)) _ (then-none (listRefusal l) _ z .1) .0
+
+lattice-log : (l : PreferenceList) (log : Log) (marks nodes budget : ℕ) → latticeRefusal l log marks nodes budget ≡ 0
+    → logRefusal (log .values) ≡ 0
+unfolding latticeRefusal
+lattice-log l log marks nodes budget z =
+    checked-log l log (marksRefusal (log .values) marks)
+    (then-none (checkedRefusal l log (marksRefusal (log .values) marks)) _ z .0)
+
+window-log : (l : PreferenceList) (log : Log) (marks work w : ℕ) → windowRefusal l log marks work w ≡ 0
+    → logRefusal (log .values) ≡ 0
+unfolding windowRefusal
+window-log l log marks work w z = checked-log l log (sizesRefusal log marks work w) z
+
+pub either-log : (l : PreferenceList) (log : Log) (marks : ℕ) → eitherRefusal l log marks ≡ 0
+    → logRefusal (log .values) ≡ 0
+unfolding eitherRefusal
+either-log l log marks e = by-engine (eqb (latticeRefusal l log marks 32768 262144) 9) e
+  where
+    by-engine : (t : Bool) → cond t (windowRefusal l log marks 4096 64) (latticeRefusal l log marks 32768 262144) ≡ 0
+        → logRefusal (log .values) ≡ 0
+    by-engine true z = window-log l log marks 4096 64 z
+    by-engine false z = lattice-log l log marks 32768 262144 z
+
+few : (log : Log) → logRefusal (log .values) ≡ 0 → rowCount (log .values) ≤ 1024
+few log z = runs.accepted (log .values) z .few
 
 pub lattice-few : (l : PreferenceList) (log : Log) (marks nodes budget : ℕ)
     → latticeRefusal l log marks nodes budget ≡ 0
     → rowCount (log .values) ≤ 1024
-unfolding latticeRefusal
-lattice-few l log marks nodes budget z =
-    checked-few l log (marksRefusal (log .values) marks)
-    (then-none (checkedRefusal l log (marksRefusal (log .values) marks)) _ z .0)
+lattice-few l log marks nodes budget z = few log (lattice-log l log marks nodes budget z)
 
 pub window-few : (l : PreferenceList) (log : Log) (marks work w : ℕ) → windowRefusal l log marks work w ≡ 0
     → rowCount (log .values) ≤ 1024
-unfolding windowRefusal
-window-few l log marks work w z = checked-few l log (sizesRefusal log marks work w) z
+window-few l log marks work w z = few log (window-log l log marks work w z)
+
+pub either-few : (l : PreferenceList) (log : Log) (marks : ℕ) → eitherRefusal l log marks ≡ 0
+    → rowCount (log .values) ≤ 1024
+either-few l log marks z = few log (either-log l log marks z)
+
+-- and no more rows are on the shortlist
+pub best-few : (l : PreferenceList) (log : Log) → length (bestMatches l log) ≤ rowCount (log .values)
+best-few l log = rw (sym (marked-best l log [])) (count-few (marksAfter l log []) (rowCount (log .values)))
 
 -- ---- the engines' own buffers
 

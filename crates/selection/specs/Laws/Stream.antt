@@ -52,26 +52,28 @@ module _ (s : List ℕ) (r : ReadAnswer) (log : List ℤ) (a : r ≡ readOf s (l
     pub rows-fit : 8 * r .rows ≤ length log
     rows-fit = omega (arith, rows-long, length-take (8 * r .rows) log)
 
-  module _ (call : PreferenceList → Log → Call) (marks : List ℕ) where
+  module _ (call : PreferenceList → Log → Call) where
     abbrev due : Call
     due = call (listIn s) (logIn s)
 
     -- reading refuses the stream
-    pub unread-leaves : (r .refusal ≡ 0 → ⊥) → Leaves (afterReading s call) marks (refused (r .refusal)) marks
-    unread-leaves z =
+    pub unread-refusal : (r .refusal ≡ 0 → ⊥) → afterReading s call .refusal ≡ r .refusal
+    unread-refusal z =
         let n = ap (λ (y : ReadAnswer). y .refusal) answer in
-        leaves-refused (afterReading s call) marks (r .refusal)
-        (then-first (readOf s 8192 .refusal) (due .refusal) (λ q. z (n ∙ q)) ∙ sym n) z
+        then-first (readOf s 8192 .refusal) (due .refusal) (λ q. z (n ∙ q)) ∙ sym n
 
-    -- reading accepts it, and the call on what was read ends
-    pub read-leaves : (marks′ : List ℕ) (ends : Outcome ℕ) → r .refusal ≡ 0
-        → Leaves (call (r .list) (logOf (take (8 * r .rows) log))) marks ends marks′
-        → Leaves (afterReading s call) marks ends marks′
-    unfolding marksLeft
-    read-leaves marks′ ends z b =
+    -- reading accepts it: the call on a stream is the call on what was read
+    pub read-call : r .refusal ≡ 0 → call (r .list) (logOf (take (8 * r .rows) log)) ≡ afterReading s call
+    read-call z =
         let k = sym (then-next (readOf s 8192 .refusal) (due .refusal) (none z)) in
-        let a : Leaves due marks ends marks′ = rw (rows-are z, answer) at b in
-        record {
-          answer-is = a .answer-is ∙ ap (λ (j : ℕ). outcome j (due .value)) k;
-          marks-are = a .marks-are ∙ ap (λ (j : ℕ). cond (eqb j 0) (marksAfter (due .list) (due .log) marks) marks) k;
-        }
+        rw (rows-are z, answer)
+        (ap (λ (j : ℕ). record { list = due .list; log = due .log; refusal = j; value = due .value }) k)
+
+    module _ (marks : List ℕ) where
+      pub unread-leaves : (r .refusal ≡ 0 → ⊥) → Leaves (afterReading s call) marks (refused (r .refusal)) marks
+      unread-leaves z = leaves-refused (afterReading s call) marks (r .refusal) (unread-refusal z) z
+
+      pub read-leaves : (marks′ : List ℕ) (ends : Outcome ℕ) → r .refusal ≡ 0
+          → Leaves (call (r .list) (logOf (take (8 * r .rows) log))) marks ends marks′
+          → Leaves (afterReading s call) marks ends marks′
+      read-leaves marks′ ends z b = rw (read-call z) at b

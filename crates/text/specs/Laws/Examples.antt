@@ -5,7 +5,7 @@ use native.Mathlib.Omega.{arith}
 use mathlib.Core.List.{List, _++_}
 use lib.IntN.{pos, negsuc}
 use Rattle.text.specs.Letters.{letters}
-use Rattle.text.specs.Text.{decimalBy, decimal, sign, signed}
+use Rattle.text.specs.Text.{decimalBy, decimal, sign, signed, hundredths}
 use Rattle.text.specs.Laws.Text.{rounds-enough}
 
 pub zero-text : decimal 0 ≡ letters "0"
@@ -36,3 +36,19 @@ least-text = ap (λ (x : List ℕ). letters "-" ++ x) (sym (rounds-enough 9 2147
 pub greatest-text : signed (pos 2147483647) ≡ letters "2147483647"
 unfolding signed sign decimalBy
 greatest-text = sym (rounds-enough 9 2147483647 (omega arith))
+
+-- ---- hundredths
+
+-- "(−5 is `-0.05`)"
+pub minus-five-hundredths : hundredths (negsuc 4) ≡ letters "-0.05"
+unfolding hundredths sign decimal decimalBy
+minus-five-hundredths = refl
+
+pub minus-one-whole : hundredths (negsuc 99) ≡ letters "-1.00"
+unfolding hundredths sign decimal decimalBy
+minus-one-whole = refl
+
+pub least-hundredths : hundredths (negsuc 2147483647) ≡ letters "-21474836.48"
+unfolding hundredths sign decimalBy
+least-hundredths =
+    ap (λ (x : List ℕ). letters "-" ++ x ++ letters ".48") (sym (rounds-enough 7 21474836 (omega arith)))

@@ -11,7 +11,7 @@ use lib.Seq.{take-all, take-nil}
 use borrow.Author.Tests.{ltb-true, ltb-false}
 use Rattle.laws.specs.Lists.{joined}
 use Rattle.word.specs.Puts.{Puts}
-use Rattle.word.specs.Laws.Puts.{puts-none, puts-byte, puts-then, puts-same, puts-length}
+use Rattle.word.specs.Laws.Puts.{Stands, puts-none, puts-byte, puts-then, puts-same, puts-length, puts-stands}
 use Rattle.text.specs.Prints.{within, Prints}
 
 take-then : (k : ℕ) (x y : List ℕ) → take k (x ++ y) ≡ take k x ++ take (k - length x) y
@@ -78,3 +78,7 @@ pub prints-whole : (out last : List ℕ) (at next : ℕ) (x : List ℕ) → at +
     → Prints out last at next x → Puts out last at next x
 unfolding within
 prints-whole out last at next x h p = puts-same (take-all (4294967296 - at) x (omega arith)) (p .puts)
+
+pub prints-stands : {out last : List ℕ} {n : ℕ} {x : List ℕ} → length x ≤ 4294967296 → length x ≤ length out
+    → Prints out last 0 n x → Stands last x n
+prints-stands {out} {last} {n} {x} s h p = puts-stands h (prints-whole out last 0 n x (omega arith) p)

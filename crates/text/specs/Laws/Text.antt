@@ -7,9 +7,10 @@ use mathlib.Core.Bool.{Bool, true, false, cond}
 use mathlib.Core.List.{List, [], _∷_, _++_}
 use lib.Dec.{ltb}
 use lib.IntN.{ℤ, pos, negsuc, natAbs}
+use lib.Signed.{mag}
 use lib.ListN.{length, length-append}
 use borrow.Author.Tests.{lt-ltb, le-ltb, ltb-true, ltb-false}
-use Rattle.text.specs.Text.{figure, decimalBy, decimal, sign, signed}
+use Rattle.text.specs.Text.{figure, decimalBy, decimal, sign, signed, hundredths}
 
 -- the next round's result matters only from ten on
 round-same : (x y : List ℕ) (n : ℕ) → (10 ≤ n → x ≡ y) → (t : Bool) → ltb n 10 ≡ t
@@ -76,3 +77,13 @@ pub signed-short : (k : ℕ) (z : ℤ) → natAbs z < 10 ^ suc k → length (sig
 unfolding signed
 signed-short k z h =
     omega (arith, length-append (sign z) (decimal (natAbs z)), sign-short z, decimal-short k (natAbs z) h)
+
+-- every number of 32 bits
+pub value-short : (z : ℤ) → mag z < 2147483648 → length (signed z) ≤ 11
+value-short (pos n) h = signed-short 9 (pos n) (omega arith)
+value-short (negsuc n) h = signed-short 9 (negsuc n) (omega arith)
+
+pub hundredths-short : (z : ℤ) → mag z < 2147483648 → length (hundredths z) ≤ 12
+unfolding hundredths sign
+hundredths-short (pos n) h = simp length-append (omega (arith, decimal-short 7 (n / 100) (omega arith)))
+hundredths-short (negsuc n) h = simp length-append (omega (arith, decimal-short 7 (suc n / 100) (omega arith)))

@@ -1,12 +1,12 @@
 -- Stores one after the other.
 use mathlib.Core.Path.{_≡_, refl, sym, ap, _∙_}
-use Prim.Native.Nat.{ℕ, _+_}
+use Prim.Native.Nat.{ℕ, _+_, _≤_}
 use native.Mathlib.Omega.{arith}
 use native.Mathlib.Numerals.{add-one}
 use mathlib.Core.List.{List, [], _∷_, _++_}
-use lib.ListN.{length, set, length-append}
+use lib.ListN.{length, set, take, length-append}
 use lib.Seq.{sets, length-sets}
-use Rattle.laws.specs.Laws.Stores.{sets-append}
+use Rattle.laws.specs.Laws.Stores.{sets-append, stored-front}
 use Rattle.laws.specs.Lists.{joined}
 use Rattle.word.specs.Word.{wordBytes}
 use Rattle.word.specs.Puts.{Puts}
@@ -47,3 +47,17 @@ puts-same e p = rw e at p
 -- stores keep the length
 pub puts-length : {out last : List ℕ} {at next : ℕ} {x : List ℕ} → Puts out last at next x → length last ≡ length out
 puts-length {out} {last} {at} {next} {x} p = ap length (p .last-is) ∙ length-sets out at x
+
+-- x stands at the front of a list, up to place n
+pub record Stands (last x : List ℕ) (n : ℕ) : Type 0 where
+  pub size : n ≡ length x
+  pub long : n ≡ length (take n last)
+  pub whole : take n last ≡ x
+
+-- what is put at the front of a list with room for it
+pub puts-stands : {out last : List ℕ} {n : ℕ} {x : List ℕ} → length x ≤ length out → Puts out last 0 n x
+    → Stands last x n
+puts-stands {out} {last} {n} {x} h p =
+    let e : n ≡ length x = omega (arith, p .next-is) in
+    let w : take n last ≡ x = rw (e, p .last-is) (stored-front out x h) in
+    record { size = e; long = e ∙ sym (ap length w); whole = w }

@@ -1,0 +1,5 @@
+pub mod Pages
+pub mod Call
+pub mod Inside
+pub mod Laws
+pub mod Theorems
