@@ -200,6 +200,32 @@ pub fn mostly_best(random: &mut Random, rows: usize) -> Generated {
     Generated { wishes, runs }
 }
 
+/// The longest stream that reads: 34,334 bytes.
+pub fn longest() -> Vec<u8> {
+    let wishes: Vec<u8> = (0..7).flat_map(|column| between(column, -9, 9, 1, 0, 0)).collect();
+    let names: Vec<u8> = (0..64).flat_map(|value| named(value, 0)).collect();
+    let runs: Vec<u8> = (0..1_024).flat_map(|row| run(&[row % 3, 1, 2, 3, 4, 5, 6, 7])).collect();
+    let longest = [wishes, layered(7, 1, 1), names, runs].concat();
+    assert_eq!(longest.len(), 34_334);
+    longest
+}
+
+/// Streams that go on after the longest one, and others as long, with their refusal numbers. 65,536 is where an input buffer may end.
+pub fn too_long() -> Vec<(Vec<u8>, i32)> {
+    let longest = longest();
+    let after = |rest: &[u8]| [&longest, rest].concat();
+    let a_run = run(&[0; 8]);
+    let mut streams = vec![(after(&a_run), 7), (after(&a_run[..32]), 4), (after(&[7]), 4), (after(&[1]), 3), (after(&[8]), 2)];
+    for length in [65_535, 65_536, 65_537, 70_000, 300_000] {
+        let rest = length - longest.len();
+        streams.push((after(&vec![7; rest]), 7));
+        streams.push((after(&vec![0; rest]), 2));
+        streams.push((vec![0; length], 2));
+        streams.push((vec![7; length], 3));
+    }
+    streams
+}
+
 /// A record of any kind with any figures, more often sound than not.
 pub fn any_record(random: &mut Random) -> Record {
     let column = random.below(10) as u8;

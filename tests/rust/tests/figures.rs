@@ -1,8 +1,8 @@
-//! The model against figures that were not computed by it: documents 000 and 003, and document 01's marked cases.
+//! The model against figures that were not computed by it: documents 000 and 003, document 01's marked cases, order 1 of document 02.
 
 use flat_calls::model::flat::{facts, program};
 use flat_calls::model::reader::{read, Form, Input, Refusal};
-use flat_calls::model::{best, lattice, levels, machine};
+use flat_calls::model::{best, lattice, levels, machine, sheet};
 use flat_calls::random::Random;
 use flat_calls::records::*;
 
@@ -285,6 +285,19 @@ fn two_ways_give_the_same() {
         let by_bytes: Vec<u8> = rows.iter().map(|row| u8::from(bytes[lattice::node(&tops, row)] == 1)).collect();
         assert_eq!(by_bytes, marks);
     }
+}
+
+/// Document 02, order 1: 102 bytes for each run, heading and foot; "−5 is `-0.05`".
+#[test]
+fn the_shift_sheet() {
+    let alike = |rows: usize| sheet::of_log(&vec![[-5; 8]; rows], &vec![1; rows]);
+    for (rows, lines) in [(0, 2), (1, 3), (49, 51), (50, 52), (51, 55), (100, 104), (101, 107), (1_024, 1_066)] {
+        assert_eq!(alike(rows).len(), 102 * lines, "{rows} runs");
+    }
+    let headings = ["ROW", "HOURS", "CUBIC", "M", "DENSITY", "FUEL", "SUCTION", "DISCHARGE", "DEPTH", "SOIL"];
+    let run = ["0", "-0.05", "-5", "-5", "-5", "-5", "-5", "-5", "-5"];
+    let words = [&headings[..], &run, &["PAGE", "1", "OF", "1"]].concat();
+    assert_eq!(alike(1).split_whitespace().collect::<Vec<&str>>(), words);
 }
 
 #[test]

@@ -1,4 +1,4 @@
-//! The model's text in the program's place.
+//! The model's text in the place of the program `shortlist`.
 
 #[path = "../src/model/mod.rs"]
 #[allow(dead_code)]

@@ -1,6 +1,6 @@
-//! The two flat calls and the program, as document 01 has them answer. Counts come back as they are, refusals as minus the number.
+//! The two flat calls and the two programs, as documents 01 and 02 have them answer. Counts come back as they are, refusals as minus the number.
 
-use super::{best, lattice, levels, machine, reader};
+use super::{best, lattice, levels, machine, reader, sheet};
 use std::fmt::Write;
 
 /// What the calls' answers hang on, worked out once for a stream that reads.
@@ -57,23 +57,39 @@ impl Facts {
     }
 }
 
-/// What `shortlist` prints: the lattice engine with budget 262,144, or where that gives 9 the window engine with w 64.
-pub fn program(stream: &[u8]) -> String {
-    let facts = match facts(stream) {
-        Ok(facts) => facts,
-        Err(number) => return format!("refused {number}\n"),
-    };
+/// The facts of a log that the programs answer: by the lattice engine with budget 262,144, or where that gives 9 by the window engine with
+/// w 64. Else the refusal number.
+fn answered(stream: &[u8]) -> Result<Facts, i32> {
+    let facts = facts(stream)?;
     let result = match facts.lattice(facts.rows, 262_144) {
         -9 => facts.window(facts.rows, 64),
         result => result,
     };
     if result < 0 {
-        return format!("refused {}\n", -result);
+        return Err(-result);
     }
-    let mut text = format!("runs {} best {result}\n", facts.rows);
+    Ok(facts)
+}
+
+fn refused(number: i32) -> String {
+    format!("refused {number}\n")
+}
+
+/// What `shortlist` prints.
+pub fn program(stream: &[u8]) -> String {
+    answered(stream).map_or_else(refused, |facts| lines(&facts))
+}
+
+fn lines(facts: &Facts) -> String {
+    let mut text = format!("runs {} best {}\n", facts.rows, facts.best);
     for row in (0..facts.rows).filter(|row| facts.marks[*row] == 1) {
         let run = &facts.input.runs[row];
         writeln!(text, "{row} {} {}", run[0], run[1]).expect("text");
     }
     text
+}
+
+/// What `sheet` prints.
+pub fn sheet(stream: &[u8]) -> String {
+    answered(stream).map_or_else(refused, |facts| sheet::of_log(&facts.input.runs, &facts.marks))
 }
