@@ -27,12 +27,17 @@ use Rattle.window.specs.Engine.{windowCall, WorkLeft}
 use Rattle.dominator.specs.Engine.{dominatorRefusal, RefusedBy}
 use Rattle.console.specs.Flat.{flatLatticeCall, flatWindowCall}
 use Rattle.selection.specs.Stream.{programCall}
+use Rattle.sheet_pages.specs.Pages.{sheetOf}
+use Rattle.sheet_pages.specs.Call.{sheetRefusal, SheetLeft}
+use Rattle.sheet_pages.specs.Laws.Left.{refused-left}
+use Rattle.sheet_report.specs.Sheet.{streamSheet, streamRefusal}
 use Rattle.demands.specs.Refusals.{levelRefusals, readRefusals, writeRefusals, latticeRefusals, windowRefusals}
-use Rattle.demands.specs.Refusals.{dominatorRefusals}
+use Rattle.demands.specs.Refusals.{dominatorRefusals, sheetRefusals, streamSheetRefusals}
 use Rattle.demands.specs.Refusals.{flatLatticeRefusals, flatWindowRefusals, programRefusals}
 use Rattle.demands.specs.Laws.Refusals.{lattice-among, window-among, dominator-among, level-among, write-among}
-use Rattle.demands.specs.Laws.Refusals.{read-among}
+use Rattle.demands.specs.Laws.Refusals.{read-among, sheet-among}
 use Rattle.demands.specs.Laws.Streams.{flat-lattice-among, flat-window-among, program-among}
+use Rattle.demands.specs.Laws.Streams.{stream-sheet-among}
 
 -- a number that a call is refused by is not 0
 some-among : (ns : List ℕ) (n k : ℕ) → n ≡ k → (k ≡ 0 → ⊥) → Among (0 ∷ ns) n → Among ns k
@@ -115,6 +120,23 @@ module _ (s marks marks′ : List ℕ) (k : ℕ) where
       refused-call flatWindowRefusals (flatWindowCall s (length marks) w)
       (flat-window-among s (length marks) w) marks marks′ k
 
--- the program's `refused N`
+-- a program's `refused N`
 pub program-refused : (s : List ℕ) → (programCall s .refusal ≡ 0 → ⊥) → Among programRefusals (programCall s .refusal)
 program-refused s h = among-some programRefusals (programCall s .refusal) h (program-among s)
+
+-- document 02, order 1: the sheet, of a log with marks and of a stream; the output is as it was
+module _ (out out′ : List ℕ) (k : ℕ) where
+  left-call : (ns : List ℕ) (refusal : ℕ) (sheet : List ℕ) → Among (0 ∷ ns) refusal
+      → SheetLeft refusal sheet out (refused k) out′ → Among ns k × (out′ ≡ out)
+  left-call ns refusal sheet m a =
+      let p = refused-left refusal sheet out out′ k a in (some-among ns refusal k (p .0) (p .1) m, p .2)
+
+  pub sheet-refused : (log : List ℤ) (marks : List ℕ)
+      → SheetLeft (sheetRefusal log marks (length out)) (sheetOf log marks) out (refused k) out′
+      → Among sheetRefusals k × (out′ ≡ out)
+  sheet-refused log marks = left-call sheetRefusals _ (sheetOf log marks) (sheet-among log marks (length out))
+
+  pub stream-sheet-refused : (s : List ℕ)
+      → SheetLeft (streamRefusal s (length out)) (streamSheet s) out (refused k) out′
+      → Among streamSheetRefusals k × (out′ ≡ out)
+  stream-sheet-refused s = left-call streamSheetRefusals _ (streamSheet s) (stream-sheet-among s (length out))

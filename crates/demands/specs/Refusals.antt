@@ -35,7 +35,15 @@ flatLatticeRefusals = 1 ∷ 2 ∷ 3 ∷ 4 ∷ 5 ∷ 6 ∷ 7 ∷ 8 ∷ 9 ∷ 10 �
 abbrev pub flatWindowRefusals : List ℕ
 flatWindowRefusals = 1 ∷ 2 ∷ 3 ∷ 4 ∷ 5 ∷ 6 ∷ 7 ∷ 8 ∷ 10 ∷ []
 
--- the program's `refused N`: its buffers, its budget and its window are enough, and the window engine runs where 9
--- would come
+-- document 02, order 1: the sheet has "14, .. after 10; 15, .. after 14", and no wish list
+abbrev pub sheetRefusals : List ℕ
+sheetRefusals = 10 ∷ 14 ∷ 15 ∷ []
+
+-- a program's `refused N`: its buffers, its budget and its window are enough, and the window engine runs where 9 would
+-- come
 abbrev pub programRefusals : List ℕ
 programRefusals = 1 ∷ 2 ∷ 3 ∷ 4 ∷ 5 ∷ 6 ∷ 7 ∷ 8 ∷ []
+
+-- the sheet of a stream: a program's numbers, then 15
+abbrev pub streamSheetRefusals : List ℕ
+streamSheetRefusals = 15 ∷ programRefusals

@@ -1,7 +1,6 @@
 // The lines of a shift sheet, put into lent bytes (document 02, order 1).
 ghost use mathlib.Core.Path.{_≡_};
 ghost use Prim.Native.Nat.{_-_, _≤_};
-ghost use mathlib.Core.List.{_++_};
 ghost use lib.IntN.{pos};
 ghost use lib.ListN.{length, getD};
 ghost use Rattle.text.specs.Prints.{Prints};

@@ -11,7 +11,6 @@ use lib.Signed.{mag}
 use lib.ListN.{length, getD, take, drop, replicate}
 use lib.Seq.{take-append-seam, getD-drop, getD-append-add}
 use Rattle.laws.specs.Checks.{_gives_}
-use Rattle.laws.specs.First.{anyBelow}
 use Rattle.laws.specs.Lists.{joined}
 use Rattle.laws.specs.Outcome.{accepted}
 use Rattle.laws.specs.Laws.Checks.{then-none}
@@ -24,7 +23,7 @@ use Rattle.sheet_lines.specs.Line.{padded, fieldWidth, fieldText, rowLine}
 use Rattle.sheet_lines.specs.Laws.Fields.{field-whole}
 use Rattle.sheet_lines.specs.Laws.Lines.{Lined}
 use Rattle.sheet_pages.specs.Pages.{pageCount, pageRows, pagesOf, sheetOf}
-use Rattle.sheet_pages.specs.Call.{handedRefusal, roomRefusal, sheetRefusal, SheetLeft}
+use Rattle.sheet_pages.specs.Call.{handedRefusal, sheetRefusal, SheetLeft}
 use Rattle.sheet_pages.specs.Laws.Pages.{all-rows, full-page, pages-lined}
 use Rattle.sheet_pages.specs.Laws.Places.{run-read}
 use Rattle.sheet_pages.specs.Laws.Left.{accepted-left, room-fits}

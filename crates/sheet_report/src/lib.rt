@@ -2,7 +2,6 @@
 use preference::PreferenceList;
 use selection::Selection;
 use sheet_pages::SheetAnswer;
-ghost use mathlib.Core.Path.{_≡_};
 ghost use Prim.Native.Nat.{_≤_};
 ghost use lib.ListN.{length};
 ghost use Rattle.limits.specs.Limits.{maxRuns, maxSheetBytes};

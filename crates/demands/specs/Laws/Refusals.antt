@@ -8,7 +8,7 @@ use lib.IntN.{ℤ}
 use lib.ListN.{length, getD, drop}
 use borrow.Author.Tests.{eqb-true}
 use Rattle.laws.specs.Lists.{anyOf}
-use Rattle.log.specs.Log.{Log, logRefusal, marksRefusal}
+use Rattle.log.specs.Log.{Log, logRefusal, marksRefusal, markValuesRefusal}
 use Rattle.preference.specs.Level.{levelRefusal}
 use Rattle.preference.specs.declared.PreferenceList.{PreferenceList}
 use Rattle.pareto.specs.Checked.{checkedRefusal}
@@ -28,8 +28,9 @@ use Rattle.lattice.specs.Engine.{latticeRefusal}
 use Rattle.lattice.specs.Laws.Checked.{marks-among}
 use Rattle.window.specs.Engine.{sizesRefusal, windowRefusal}
 use Rattle.dominator.specs.Engine.{dominatorRefusal}
+use Rattle.sheet_pages.specs.Call.{handedRefusal, roomRefusal, sheetRefusal}
 use Rattle.demands.specs.Refusals.{levelRefusals, readRefusals, writeRefusals, latticeRefusals, windowRefusals}
-use Rattle.demands.specs.Refusals.{dominatorRefusals}
+use Rattle.demands.specs.Refusals.{dominatorRefusals, sheetRefusals}
 
 pub lattice-among : (l : PreferenceList) (log : Log) (marks nodes budget : ℕ)
     → Among (0 ∷ latticeRefusals) (latticeRefusal l log marks nodes budget)
@@ -72,6 +73,15 @@ unfolding writeRefusal logRefusal within anyOf
 write-among l log room =
     let ns = writeRefusals in
     then-among ns _ _ (list-in ns refl l) (then-among ns _ _ (gives-among ns _ 10 refl) (gives-among ns _ 10 refl))
+
+pub sheet-among : (log : List ℤ) (marks : List ℕ) (room : ℕ) → Among (0 ∷ sheetRefusals) (sheetRefusal log marks room)
+unfolding sheetRefusal handedRefusal roomRefusal logRefusal markValuesRefusal anyOf
+sheet-among log marks room =
+    let ns = sheetRefusals in
+    then-among ns _ _
+    (then-among ns _ _ (gives-among ns _ 10 refl)
+    (then-among ns _ _ (gives-among ns _ 10 refl) (gives-among ns _ 14 refl)))
+    (gives-among ns _ 15 refl)
 
 -- ---- reading
 

@@ -27,7 +27,9 @@ use Rattle.selection.specs.Selection.{eitherRefusal}
 use Rattle.selection.specs.Stream.{listIn, logIn, programCall}
 use Rattle.console.specs.Flat.{flatLatticeCall, flatWindowCall}
 use Rattle.demands.specs.Refusals.{readRefusals, latticeRefusals, windowRefusals, flatLatticeRefusals}
-use Rattle.demands.specs.Refusals.{flatWindowRefusals, programRefusals}
+use Rattle.sheet_pages.specs.Call.{roomRefusal}
+use Rattle.sheet_report.specs.Sheet.{streamRefusal}
+use Rattle.demands.specs.Refusals.{flatWindowRefusals, programRefusals, streamSheetRefusals}
 use Rattle.demands.specs.Laws.Counts.{sizes-refusal}
 use Rattle.demands.specs.Laws.Refusals.{lattice-among, window-among, read-in, read-among}
 
@@ -129,3 +131,12 @@ program-among s = go (eqb (readOf s 8192 .refusal) 0) refl
         (omega arith))
     go false e =
         rw (then-first (readOf s 8192 .refusal) either (eqb-false (readOf s 8192 .refusal) 0 e)) (read-program s)
+
+-- ---- the sheet of a stream
+
+pub stream-sheet-among : (s : List ℕ) (room : ℕ) → Among (0 ∷ streamSheetRefusals) (streamRefusal s room)
+unfolding streamRefusal roomRefusal within anyOf
+stream-sheet-among s room =
+    let ns = streamSheetRefusals in
+    then-among ns _ _ (wider (0 ∷ programRefusals) (0 ∷ ns) (programCall s .refusal) refl (program-among s))
+    (gives-among ns _ 15 refl)

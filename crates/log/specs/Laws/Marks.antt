@@ -1,9 +1,9 @@
 -- The rows that bytes mark.
-use Prim.Native.Nat.{ℕ, _≤_}
+use Prim.Native.Nat.{ℕ}
 use mathlib.Core.Bool.{Bool}
 use mathlib.Core.List.{List}
 use lib.Dec.{eqb}
-use lib.ListN.{length, getD}
+use lib.ListN.{getD}
 use Rattle.laws.specs.Laws.Passing.{Passing, passing-in-order}
 use Rattle.log.specs.Log.{markedRows}
 

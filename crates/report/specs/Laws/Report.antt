@@ -1,6 +1,6 @@
 -- From what reading and selecting answer to the text.
 use mathlib.Core.Path.{_≡_, refl, sym, ap, _∙_}
-use Prim.Native.Nat.{ℕ, _+_, _*_, _<_, _≤_}
+use Prim.Native.Nat.{ℕ, _*_, _<_, _≤_}
 use native.Mathlib.Omega.{arith}
 use mathlib.Core.Bool.{Bool, true, false, cond}
 use mathlib.Core.List.{List, [], _++_}
@@ -10,14 +10,14 @@ use lib.ListN.{length, take, length-append}
 use borrow.Author.Tests.{eq-eqb, ne-eqb, eqb-true, eqb-false}
 use Rattle.laws.specs.Lists.{joined}
 use Rattle.laws.specs.Outcome.{accepted, refused}
-use Rattle.laws.specs.Laws.Checks.{then-first, then-next, then-none}
+use Rattle.laws.specs.Laws.Checks.{then-none}
 use Rattle.laws.specs.Laws.Joined.{joined-cong}
 use Rattle.log.specs.Log.{Log, logOf, rowCount}
 use Rattle.preference.specs.declared.PreferenceList.{PreferenceList}
 use Rattle.pareto.specs.Best.{isBest, bestMatches, marksAfter}
 use Rattle.pareto.specs.Call.{Call, Leaves}
 use Rattle.pareto.specs.Laws.Call.{refused-leaves, accepted-leaves}
-use Rattle.pareto.specs.Laws.Marks.{mark-there, marked-best}
+use Rattle.pareto.specs.Laws.Marks.{mark-there}
 use Rattle.text.specs.Prints.{Prints}
 use Rattle.text.specs.Laws.Prints.{prints-whole, prints-same}
 use Rattle.report_lines.specs.Lines.{refusedText, headText, lineText, markedText}

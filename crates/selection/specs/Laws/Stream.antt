@@ -2,17 +2,14 @@
 use mathlib.Core.Path.{_≡_, sym, ap, _∙_}
 use Prim.Native.Nat.{ℕ, _*_, _≤_}
 use native.Mathlib.Omega.{arith}
-use mathlib.Core.Bool.{cond}
 use mathlib.Core.List.{List}
-use lib.Dec.{eqb}
 use lib.IntN.{ℤ, pos}
 use lib.ListN.{length, take, replicate, length-replicate, length-take}
-use Rattle.laws.specs.Outcome.{Outcome, refused, outcome}
+use Rattle.laws.specs.Outcome.{Outcome, refused}
 use Rattle.laws.specs.Laws.Checks.{then-first, then-next}
 use Rattle.log.specs.Log.{Log, logOf}
 use Rattle.preference.specs.declared.PreferenceList.{PreferenceList}
-use Rattle.pareto.specs.Best.{marksAfter}
-use Rattle.pareto.specs.Call.{Call, marksLeft, Leaves}
+use Rattle.pareto.specs.Call.{Call, Leaves}
 use Rattle.pareto.specs.Laws.Call.{leaves-refused}
 use Rattle.stream_format.specs.Read.{readOf, logAfter}
 use Rattle.stream_format.specs.Laws.Accepted.{read-accepted}

@@ -1,6 +1,6 @@
 use borrow.Author.Needs.{needs}
 use native.Mathlib.Omega.{arith}
-use Prim.Native.Nat.{ℕ, _≤_, _-_}
+use Prim.Native.Nat.{_≤_, _-_}
 use mathlib.Core.Path.{_≡_, ap}
 use Rattle.text.specs.Prints.{Prints}
 use Rattle.text.specs.Laws.Prints.{prints-none, prints-then, prints-same, prints-length}

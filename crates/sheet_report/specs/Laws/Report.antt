@@ -1,6 +1,6 @@
 -- From what reading, selecting and printing answer to what a call on a stream answers and leaves.
 use mathlib.Core.Path.{_≡_, refl, sym, ap, subst, _∙_}
-use Prim.Native.Nat.{ℕ, _+_, _*_, _<_, _≤_}
+use Prim.Native.Nat.{ℕ, _*_, _<_, _≤_}
 use native.Mathlib.Omega.{arith}
 use native.Mathlib.Nat.{zero-add}
 use mathlib.Core.Bool.{Bool, true, false}
@@ -13,14 +13,14 @@ use borrow.Author.Tests.{eq-eqb, ne-eqb, eqb-true, eqb-false}
 use Rattle.laws.specs.Checks.{_then_}
 use Rattle.laws.specs.Outcome.{Outcome, accepted, refused}
 use Rattle.laws.specs.Laws.Checks.{then-first, then-next, then-none}
-use Rattle.log.specs.Log.{Log, logOf, rowCount}
+use Rattle.log.specs.Log.{Log, logOf}
 use Rattle.preference.specs.declared.PreferenceList.{PreferenceList}
-use Rattle.pareto.specs.Best.{bestMatches, marksAfter}
+use Rattle.pareto.specs.Best.{bestMatches}
 use Rattle.pareto.specs.Call.{Call, Leaves}
 use Rattle.pareto.specs.Laws.Call.{refused-leaves, accepted-leaves}
 use Rattle.stream_format.specs.Read.{readOf, logAfter}
 use Rattle.stream_format.specs.declared.ReadAnswer.{ReadAnswer}
-use Rattle.selection.specs.Selection.{eitherRefusal, eitherCall}
+use Rattle.selection.specs.Selection.{eitherCall}
 use Rattle.selection.specs.Stream.{listIn, logIn, programCall}
 use Rattle.selection.specs.Laws.Cut.{text-cut}
 use Rattle.selection.specs.Laws.Engines.{either-log, either-few, best-few}
