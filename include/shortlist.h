@@ -94,6 +94,18 @@ extern "C" {
 /* Lattice only: the budget is below the crossings that this log needs. */
 #define SHORTLIST_BUDGET_SPENT 11
 
+/* Numbers of calls that this archive does not have: neither call below returns
+ * one of them. They stand here so that the table is whole. */
+
+/* Which run beat a row: no such row. */
+#define SHORTLIST_NO_SUCH_ROW 12
+/* Which run beat a row: the row is on the shortlist itself. */
+#define SHORTLIST_ROW_IS_BEST 13
+/* Shift sheet: a row's mark is not 0 or 1. */
+#define SHORTLIST_BAD_MARK 14
+/* Shift sheet: the output is too short for all pages. */
+#define SHORTLIST_OUTPUT_SHORT 15
+
 /* Limits. */
 
 /* Runs in a stream; so many mark bytes are always enough. */

@@ -15,7 +15,8 @@ abbrev pub lineWidth : ℕ
 lineWidth = 101
 
 -- "all to the right": spaces before a text, so that it ends with the last of w places. Of a longer text the last w
--- characters would be left; no text of a sheet is longer than its places (Laws/Fields.antt: `field-whole`, `foot-whole`).
+-- characters would be left; no text of a sheet is longer than its places (Laws/Fields.antt: `field-whole`,
+-- `foot-whole`).
 unfoldable pub padded : ℕ → List ℕ → List ℕ
 padded w t = replicate (w - length t) (code " ") ++ drop (length t - w) t
 

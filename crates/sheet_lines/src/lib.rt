@@ -6,7 +6,7 @@ ghost use lib.ListN.{length, getD};
 ghost use Rattle.text.specs.Prints.{Prints};
 ghost use Rattle.sheet_lines.specs.Line.{padded, fieldWidth, fieldsOf, fieldText};
 ghost use Rattle.sheet_lines.specs.Line.{headingLine, rowLine, footText, footLine};
-ghost use Rattle.sheet_lines.specs.Laws.Turns.{spaces};
+ghost use Rattle.sheet_lines.specs.Laws.Turns.{spaces, longestText};
 
 // ---- a text to the right
 
@@ -51,7 +51,7 @@ fn value(row: &[i32], column: usize) -> i32
 // The text of field j: the row's number, its hours, or another column.
 fn put_text(out: &mut [u8], r: usize, row: &[i32], j: usize) -> usize
     ensures { λ n. ⌜ Prints (now (out .entry)) (now (out .exit)) 0 n (fieldText r (now (row .entry)) j) ⌝ }
-    ensures { λ n. ⌜ length (fieldText r (now (row .entry)) j) ≤ 20 ⌝ }
+    ensures { λ n. ⌜ length (fieldText r (now (row .entry)) j) ≤ longestText ⌝ }
 {
     if j == 0 {
         return text::put_decimal(out, 0, r as u64);

@@ -50,7 +50,8 @@ pub fn print(stream: &[u8], out: &mut [u8]) -> SheetAnswer
 pub fn report(stream: &[u8], out: &mut [u8]) -> usize
     ensures { λ end.
         ⌜ Puts (now (out .entry)) (now (out .exit)) 0 end
-        (textOf (streamRefusal (now (stream .entry)) (length (now (out .entry)))) (streamSheet (now (stream .entry)))) ⌝ }
+        (textOf (streamRefusal (now (stream .entry)) (length (now (out .entry))))
+        (streamSheet (now (stream .entry)))) ⌝ }
     ensures { λ end. ⌜ end ≤ maxSheetBytes ⌝ }
 {
     match print(stream, out) {

@@ -51,7 +51,8 @@ module _ (p : ℕ → Bool) (n : ℕ) (xs : List ℕ) (h : Passing p n xs) where
             (λ i l. rw (old i l) (let b = h .below i l in omega arith)) (rw new (omega arith));
         passes = place (λ i. p (getD more i 0) ≡ true) (λ i l. rw (old i l) (h .passes i l)) (rw new y);
         rises = λ i j l m. place (λ k. i < k → getD more i 0 < getD more k 0)
-            (λ k q b. rw (old i (omega arith), old k q) (h .rises i k b q)) (λ b. rw (old i b, new) (h .below i b)) j m l;
+            (λ k q b. rw (old i (omega arith), old k q) (h .rises i k b q))
+            (λ b. rw (old i b, new) (h .below i b)) j m l;
         there = λ r l z. at-or-before r l
             (λ q. (length xs, omega (arith, long), new ∙ sym q))
             (λ q. let t = h .there r q z in (t .0, omega (arith, long, t .1), old (t .0) (t .1) ∙ t .2));

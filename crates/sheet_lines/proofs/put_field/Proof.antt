@@ -2,6 +2,7 @@ use borrow.Author.Needs.{needs}
 use native.Mathlib.Omega.{arith}
 use Prim.Native.Nat.{ℕ}
 use mathlib.Core.Path.{ap, _∙_}
+use mathlib.Core.List.{List}
 use lib.ListN.{take, length-replicate}
 use Rattle.text.specs.Laws.Prints.{prints-same, prints-stands}
 use Rattle.sheet_lines.specs.Line.{padded, fieldWidth, fieldText}
@@ -10,10 +11,17 @@ use Rattle.sheet_lines.proofs.put_field.Statement.{statement}
 use Rattle.sheet_lines.proofs.put_field.Tie as tie
 
 -- the text stands at the front of its bytes
-stood : (c : tie.After-put-text) → Stands (c .put-text .last .0) (fieldText (c .before .before .before .args .r) (c .before .before .before .args .row .now) (c .before .before .before .args .j)) (c .put-text .result)
-stood c =
-    let short = c .put-text .ensures .1 in
-    prints-stands (omega arith) (omega (arith, length-replicate {A = ℕ} 32 0)) (c .put-text .ensures .0)
+module _ (c : tie.After-put-text) where
+  abbrev begun : tie.Start
+  begun = c .before .before .before
+
+  abbrev shown : List ℕ
+  shown = fieldText (begun .args .r) (begun .args .row .now) (begun .args .j)
+
+  stood : Stands (c .put-text .last .0) shown (c .put-text .result)
+  stood =
+      let short = c .put-text .ensures .1 in
+      prints-stands (omega arith) (omega (arith, length-replicate {A = ℕ} 32 0)) (c .put-text .ensures .0)
 
 slice-aggregate-put-text : tie.Need-slice-aggregate-put-text
 slice-aggregate-put-text c = search needs
@@ -38,8 +46,12 @@ same-length c = search needs
 
 returns : tie.Need-returns
 returns c =
-    let text = c .before .before .before .before .before .before .before .put-text in
-    prints-same (ap (λ (w : ℕ). padded w (take (text .result) (text .last .0))) (c .before .before .before .before .width .ensures) ∙ ap (padded (fieldWidth (c .before .before .before .before .before .before .before .before .before .before .args .j))) (stood (c .before .before .before .before .before .before .before) .whole))
+    let width = c .before .before .before .before in
+    let text = width .before .before .before in
+    let front = take (text .put-text .result) (text .put-text .last .0) in
+    prints-same
+    (ap (λ (w : ℕ). padded w front) (width .width .ensures)
+    ∙ ap (padded (fieldWidth (begun text .args .j))) (stood text .whole))
     (c .before .before .put-right .ensures)
 
 pub put-field-spec : {M : Type 1} → statement M

@@ -30,8 +30,12 @@ loop-less c = search needs
 
 loop-again : tie.Need-loop-again Inv-loop μ-loop
 loop-again c =
-    let a = c .before .before .before .before .before .before .before .args in
-    (search needs, prints-turn (λ k. padded (fieldWidth k) (fieldText (a .r) (a .row .now) k)) (c .before .before .before .before .before .loop .j) (c .before .before .before .before .before .loop .inv .1) (c .before .before .put-field .ensures))
+    let l = c .before .before .before .before .before in
+    let a = l .before .before .args in (
+      search needs,
+      prints-turn (λ k. padded (fieldWidth k) (fieldText (a .r) (a .row .now) k)) (l .loop .j) (l .loop .inv .1)
+          (c .before .before .put-field .ensures),
+    )
 
 same-length : tie.Need-same-length Inv-loop μ-loop
 same-length c = prints-length (c .before .loop .inv .1)

@@ -3,6 +3,7 @@ use native.Mathlib.Omega.{arith}
 use Prim.Native.Nat.{ℕ, _≤_}
 use lib.ListN.{length, length-replicate}
 use mathlib.Core.Path.{ap}
+use mathlib.Core.List.{List}
 use Rattle.text.specs.Laws.Prints.{prints-same, prints-then, prints-stands}
 use Rattle.sheet_lines.specs.Line.{padded, footText, footLine}
 use Rattle.sheet_lines.specs.Laws.Fields.{foot-short}
@@ -10,12 +11,19 @@ use Rattle.word.specs.Laws.Puts.{Stands}
 use Rattle.sheet_lines.proofs.put_foot.Statement.{statement}
 use Rattle.sheet_lines.proofs.put_foot.Tie as tie
 
-short : (c : tie.After-put-foot-text) → length (footText (c .before .before .before .args .page) (c .before .before .before .args .pages)) ≤ 49
-short c = foot-short (c .before .before .before .args .page) (c .before .before .before .args .pages) (c .before .before .before .fits .page .fits) (c .before .before .before .fits .pages .fits)
+module _ (c : tie.After-put-foot-text) where
+  abbrev begun : tie.Start
+  begun = c .before .before .before
 
--- the text stands at the front of its bytes
-stood : (c : tie.After-put-foot-text) → Stands (c .put-foot-text .last .0) (footText (c .before .before .before .args .page) (c .before .before .before .args .pages)) (c .put-foot-text .result)
-stood c = prints-stands (omega (arith, short c)) (omega (arith, short c, length-replicate {A = ℕ} 64 0)) (c .put-foot-text .ensures)
+  abbrev shown : List ℕ
+  shown = footText (begun .args .page) (begun .args .pages)
+
+  short : length shown ≤ 49
+  short = foot-short (begun .args .page) (begun .args .pages) (begun .fits .page .fits) (begun .fits .pages .fits)
+
+  -- the text stands at the front of its bytes
+  stood : Stands (c .put-foot-text .last .0) shown (c .put-foot-text .result)
+  stood = prints-stands (omega (arith, short)) (omega (arith, short, length-replicate {A = ℕ} 64 0)) (c .put-foot-text .ensures)
 
 slice-aggregate-put-foot-text : tie.Need-slice-aggregate-put-foot-text
 slice-aggregate-put-foot-text c = search needs
@@ -40,7 +48,10 @@ same-length c = search needs
 
 returns : tie.Need-returns
 unfolding footLine
-returns c = prints-then (prints-same (ap (padded 101) (stood (c .before .before .before .before .before .before .before .before .before .before) .whole)) (c .before .before .before .before .before .before .put-right .ensures)) (c .before .before .put-byte .ensures)
+returns c =
+    let right = c .before .before .before .before .before .before in
+    let text = right .before .before .before .before in
+    prints-then (prints-same (ap (padded 101) (stood text .whole)) (right .put-right .ensures)) (c .before .before .put-byte .ensures)
 
 pub put-foot-spec : {M : Type 1} → statement M
 put-foot-spec =

@@ -27,7 +27,12 @@ same-length c = search needs
 
 returns : tie.Need-returns
 unfolding footText
-returns c = prints-then (prints-then (prints-then (c .before .before .before .before .before .before .before .before .before .before .before .before .before .before .before .put-bytes .ensures) (c .before .before .before .before .before .before .before .before .before .before .before .put-decimal .ensures)) (c .before .before .before .before .before .before .put-bytes2 .ensures)) (c .before .before .put-decimal2 .ensures)
+returns c =
+    let of = c .before .before .before .before .before .before in
+    let number = of .before .before .before .before .before in
+    prints-then
+    (prints-then (prints-then (number .before .before .before .before .put-bytes .ensures) (number .put-decimal .ensures)) (of .put-bytes2 .ensures))
+    (c .before .before .put-decimal2 .ensures)
 
 pub put-foot-text-spec : {M : Type 1} → statement M
 put-foot-text-spec =

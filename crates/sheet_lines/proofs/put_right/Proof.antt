@@ -35,10 +35,13 @@ same-length c = search needs
 returns : tie.Need-returns
 unfolding padded
 returns c =
-    let a = c .before .before .before .before .before .before .before .before .before .before .before .before .before .args in
-    prints-then
-    (prints-same (ap spaces (c .before .before .before .before .before .before .before .before .before .excess .ensures)) (c .before .before .before .before .before .before .before .before .put-spaces .ensures))
-    (prints-same (part-from (a .t .now) (c .before .before .before .before .before .excess2 .result) (length (a .t .now) - a .places) (c .before .before .before .before .before .excess2 .ensures)) (c .before .before .put-bytes .ensures))
+    let from = c .before .before .before .before .before in
+    let spaced = from .before .before .before in
+    let start = spaced .before .before .before .before .before in
+    let t = start .args .t .now in
+    prints-then (prints-same (ap spaces (spaced .before .excess .ensures)) (spaced .put-spaces .ensures))
+    (prints-same (part-from t (from .excess2 .result) (length t - start .args .places) (from .excess2 .ensures))
+    (c .before .before .put-bytes .ensures))
 
 pub put-right-spec : {M : Type 1} → statement M
 put-right-spec =

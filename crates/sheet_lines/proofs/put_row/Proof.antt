@@ -15,7 +15,8 @@ same-length c = search needs
 
 returns : tie.Need-returns
 unfolding rowLine
-returns c = prints-then (c .before .before .before .before .before .before .put-fields .ensures) (c .before .before .put-byte .ensures)
+returns c =
+    prints-then (c .before .before .before .before .before .before .put-fields .ensures) (c .before .before .put-byte .ensures)
 
 pub put-row-spec : {M : Type 1} → statement M
 put-row-spec = tie.close (tie.spec put-fields-requires put-byte-requires same-length returns)

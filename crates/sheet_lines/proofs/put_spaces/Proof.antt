@@ -27,7 +27,9 @@ loop-less : tie.Need-loop-less Inv-loop μ-loop
 loop-less c = search needs
 
 loop-again : tie.Need-loop-again Inv-loop μ-loop
-loop-again c = (search needs, prints-same (spaces-more (c .before .before .before .before .before .loop .i)) (prints-then (c .before .before .before .before .before .loop .inv .1) (c .before .before .put-byte .ensures)))
+loop-again c =
+    let l = c .before .before .before .before .before .loop in
+    (search needs, prints-same (spaces-more (l .i)) (prints-then (l .inv .1) (c .before .before .put-byte .ensures)))
 
 same-length : tie.Need-same-length Inv-loop μ-loop
 same-length c = prints-length (c .before .loop .inv .1)

@@ -20,7 +20,8 @@ returns : tie.Need-returns
 unfolding fieldText
 returns c =
     let a = c .before .before .before .before .before .before .args in (
-      prints-same (sym (ap (fieldText (a .r) (a .row .now)) (c .before .before .before .before .if1 .taken))) (c .before .before .put-decimal .ensures),
+      prints-same (sym (ap (fieldText (a .r) (a .row .now)) (c .before .before .before .before .if1 .taken)))
+          (c .before .before .put-decimal .ensures),
       number-short (a .r) (a .row .now) (a .j) (c .before .before .before .before .if1 .taken) (omega arith),
     )
 
@@ -38,9 +39,10 @@ unfolding fieldText
 returns-2 c =
     let a = c .before .before .before .before .before .before .before .before .args in
     let v = c .before .before .before .value in
-    let e = num (v .result) (v .ok) ∙ v .ensures in (
-      prints-same (ap hundredths e ∙ sym (ap (fieldText (a .r) (a .row .now)) (c .before .before .before .before .before .if2 .taken))) (c .before .before .put-hundredths .ensures),
-      hours-short (a .r) (a .row .now) (a .j) (c .before .before .before .before .before .if2 .taken) (rw (v .ensures) at (v .ok)),
+    let e = num (v .result) (v .ok) ∙ v .ensures in
+    let hours = c .before .before .before .before .before .if2 .taken in (
+      prints-same (ap hundredths e ∙ sym (ap (fieldText (a .r) (a .row .now)) hours)) (c .before .before .put-hundredths .ensures),
+      hours-short (a .r) (a .row .now) (a .j) hours (rw (v .ensures) at (v .ok)),
     )
 
 sub-value : tie.Need-sub-value

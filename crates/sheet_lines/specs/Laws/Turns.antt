@@ -9,6 +9,10 @@ use lib.Seq.{take-all}
 use Rattle.text.specs.Text.{signed}
 use Rattle.sheet_lines.specs.Line.{fieldWidth, fieldText}
 
+-- how long the text of a field is at most: a row number of 64 bits has 20 figures
+abbrev pub longestText : ℕ
+longestText = 20
+
 -- n spaces
 abbrev pub spaces : ℕ → List ℕ
 spaces n = replicate n 32

@@ -36,8 +36,13 @@ loop-less c = search needs
 loop-again : tie.Need-loop-again Inv-loop μ-loop
 unfolding markedRows
 loop-again c =
-    let l = c .before .before .before .before .before .loop in
-    (search needs, omega (arith, l .inv .1, puts-length (c .before .before .list-row .ensures)), puts-turn (picked (c .before .before .before .before .before .before .before .before .args .marks .now)) (l .r) (l .inv .2) (c .before .before .list-row .ensures))
+    let turn = c .before .before .list-row .ensures in
+    let l = c .before .before .before .before .before in
+    let marks = l .before .before .before .args .marks .now in (
+      search needs,
+      omega (arith, l .loop .inv .1, puts-length turn),
+      puts-turn (picked marks) (l .loop .r) (l .loop .inv .2) turn,
+    )
 
 same-length : tie.Need-same-length Inv-loop μ-loop
 same-length c = puts-length (c .before .loop .inv .2)

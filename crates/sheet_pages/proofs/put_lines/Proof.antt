@@ -39,11 +39,16 @@ loop-less c = search needs
 
 loop-again : tie.Need-loop-again Inv-loop μ-loop
 loop-again c =
-    let a = c .before .before .before .before .before .before .before .before .before .args in
-    let i = c .before .before .before .before .before .before .loop .i in
+    let test = c .before .before .before .before .before in
+    let l = test .before in
+    let a = l .before .before .before .args in
+    let i = l .loop .i in
     let rows = a .rows .now in
-    let e : take (i + 1) rows ≡ take i rows ++ (getD rows i 0 ∷ []) = rw (add-one i) (take-suc rows i 0 (c .before .before .before .before .before .loop-test .taken)) in
-    (search needs, prints-same (lines-more (a .log .now) (getD rows i 0) (take i rows) ∙ ap (linesOf (a .log .now)) (sym e)) (prints-then (c .before .before .before .before .before .before .loop .inv .1) (c .before .before .put-line .ensures)))
+    let e : take (i + 1) rows ≡ take i rows ++ (getD rows i 0 ∷ []) = rw (add-one i) (take-suc rows i 0 (test .loop-test .taken)) in (
+      search needs,
+      prints-same (lines-more (a .log .now) (getD rows i 0) (take i rows) ∙ ap (linesOf (a .log .now)) (sym e))
+          (prints-then (l .loop .inv .1) (c .before .before .put-line .ensures)),
+    )
 
 same-length : tie.Need-same-length Inv-loop μ-loop
 same-length c = prints-length (c .before .loop .inv .1)

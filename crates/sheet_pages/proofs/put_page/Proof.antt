@@ -48,12 +48,18 @@ same-length c = search needs
 returns : tie.Need-returns
 unfolding pageOf
 returns c =
-    let a = c .before .before .before .before .before .before .before .before .before .before .before .before .before .before .before .before .before .args in
-    let rows = a .rows .now in
-    let from = 50 * a .p in
-    let part = ap (λ (k : ℕ). take (k - from) (drop from rows)) (c .before .before .before .before .before .before .before .before .before .before .before .before .before .before .page-end .ensures .0) ∙ page-part rows (a .p) (c .before .before .before .before .before .before .before .before .before .before .before .before .before .before .before .before .before .pre) in
-    prints-then (prints-then (c .before .before .before .before .before .before .before .before .before .before .before .before .put-heading .ensures) (prints-same (ap (linesOf (a .log .now)) part) (c .before .before .before .before .before .before .before .put-lines .ensures)))
-    (prints-same (ap (footLine (a .p + 1)) (c .before .before .before .before .page-count .ensures)) (c .before .before .put-foot .ensures))
+    let counted = c .before .before .before .before in
+    let lines = counted .before .before .before in
+    let heading = lines .before .before .before .before .before in
+    let end = heading .before .before in
+    let start = end .before .before .before in
+    let rows = start .args .rows .now in
+    let from = 50 * start .args .p in
+    let part =
+    ap (λ (k : ℕ). take (k - from) (drop from rows)) (end .page-end .ensures .0) ∙ page-part rows (start .args .p) (start .pre) in
+    prints-then
+    (prints-then (heading .put-heading .ensures) (prints-same (ap (linesOf (start .args .log .now)) part) (lines .put-lines .ensures)))
+    (prints-same (ap (footLine (start .args .p + 1)) (counted .page-count .ensures)) (c .before .before .put-foot .ensures))
 
 pub put-page-spec : {M : Type 1} → statement M
 put-page-spec =

@@ -37,8 +37,11 @@ loop-less c = search needs
 
 loop-again : tie.Need-loop-again Inv-loop μ-loop
 loop-again c =
-    let a = c .before .before .before .before .before .before .before .before .before .args in
-    (search needs, prints-turn (pageOf (a .log .now) (a .rows .now)) (c .before .before .before .before .before .loop .p) (c .before .before .before .before .before .loop .inv .1) (c .before .before .put-page .ensures))
+    let l = c .before .before .before .before .before in
+    let a = l .before .before .before .before .args in (
+      search needs,
+      prints-turn (pageOf (a .log .now) (a .rows .now)) (l .loop .p) (l .loop .inv .1) (c .before .before .put-page .ensures),
+    )
 
 same-length : tie.Need-same-length Inv-loop μ-loop
 same-length c = prints-length (c .before .loop .inv .1)
@@ -46,9 +49,11 @@ same-length c = prints-length (c .before .loop .inv .1)
 returns : tie.Need-returns Inv-loop μ-loop
 unfolding pagesOf
 returns c =
-    let a = c .before .before .before .before .before .args in
-    let e : c .before .loop .p ≡ pageCount (length (a .rows .now)) = omega (arith, c .before .before .page-count .ensures, c .before .loop .inv .0, c .loop-test .left) in
-    prints-same (ap (joined (pageOf (a .log .now) (a .rows .now))) e) (c .before .loop .inv .1)
+    let l = c .before in
+    let a = l .before .before .before .before .args in
+    let e : l .loop .p ≡ pageCount (length (a .rows .now)) =
+    omega (arith, l .before .page-count .ensures, l .loop .inv .0, c .loop-test .left) in
+    prints-same (ap (joined (pageOf (a .log .now) (a .rows .now))) e) (l .loop .inv .1)
 
 pub put-pages-spec : {M : Type 1} → statement M
 put-pages-spec =

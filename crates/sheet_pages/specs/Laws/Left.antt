@@ -11,7 +11,8 @@ use borrow.Author.Tests.{lt-ltb, le-ltb, ltb-false, eq-eqb, ne-eqb}
 use Rattle.laws.specs.Checks.{_then_}
 use Rattle.laws.specs.Outcome.{Outcome, accepted, refused}
 use Rattle.laws.specs.Laws.Checks.{gives-yes, gives-no, gives-none, then-first, then-next, then-none}
-use Rattle.laws.specs.Laws.Outcome.{outcome-accepted, outcome-refused, accepted-refusal, accepted-value, refused-refusal}
+use Rattle.laws.specs.Laws.Outcome.{outcome-accepted, outcome-refused, accepted-refusal, accepted-value}
+use Rattle.laws.specs.Laws.Outcome.{refused-refusal}
 use Rattle.log.specs.Log.{rowCount, logRefusal, markedRows}
 use Rattle.log.specs.Laws.Log.{accepted as accepted-log}
 use Rattle.log.specs.Laws.Marks.{marked-in-order}

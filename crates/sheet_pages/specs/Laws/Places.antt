@@ -66,7 +66,8 @@ module _ (log : List ℤ) where
   abbrev pub lineAt : ℕ → List ℕ
   lineAt r = rowLine r (rowAt log r)
 
-  lines-within : (rows : List ℕ) (k : ℕ) → k < length rows → Within (linesOf log rows) (lineAt (getD rows k 0)) (102 * k)
+  lines-within : (rows : List ℕ) (k : ℕ) → k < length rows
+      → Within (linesOf log rows) (lineAt (getD rows k 0)) (102 * k)
   unfolding linesOf
   lines-within [] k h = absurd (not-suc-le-zero h)
   lines-within (r ∷ rows) zero h = record { first = []; last = linesOf log rows; is = refl; long = refl }

@@ -78,8 +78,7 @@ module _ (l : PreferenceList) (log : Log) (marks marks′ out : List ℕ) (long 
       (omega (arith, kept, ap length (p .2)))) in
       let same : sheetOf (log .values) marks′ ≡ sheetFor call =
       ap (sheetOf (log .values)) (p .2) ∙ sheet-of-best l log marks in
-      let q : SheetLeft (roomRefusal (sheetOf (log .values) marks′) (length out)) (sheetOf (log .values) marks′) out ends
-      out′ = rw (then-next (handedRefusal (log .values) marks′) _ handed) at b in
+      let q = rw (then-next (handedRefusal (log .values) marks′) _ handed) at b in
       left-next (call .refusal) _ (sheetFor call) out ends out′ (p .0) (rw same at q)
 
 -- ---- a stream

@@ -28,7 +28,10 @@ same-length : tie.Need-same-length
 same-length c = search needs
 
 returns : tie.Need-returns
-returns c = prints-then (prints-then (c .before .before .before .before .before .before .before .before .before .before .put-byte .ensures) (c .before .before .before .before .before .before .put-byte2 .ensures)) (c .before .before .put-byte3 .ensures)
+returns c =
+    let tenths = c .before .before .before .before .before .before in
+    prints-then (prints-then (tenths .before .before .before .before .put-byte .ensures) (tenths .put-byte2 .ensures))
+    (c .before .before .put-byte3 .ensures)
 
 pub put-decimals-spec : {M : Type 1} → statement M
 put-decimals-spec =

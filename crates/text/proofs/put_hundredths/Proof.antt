@@ -26,11 +26,14 @@ same-length c = search needs
 returns : tie.Need-returns
 unfolding hundredths
 returns c =
-    let a = c .before .before .before .before .before .before .before .before .before .before .before .before .before .before in
+    let whole = c .before .before .before .before .before .before in
+    let signed = whole .before .before .before .before in
+    let a = signed .before .before .before .before in
     let f = num (a .args .v) (a .fits .v .sfits) in
-    let size = c .before .before .before .before .before .before .before .before .before .before .before .before .magnitude .ensures ∙ ap natAbs f in
+    let size = signed .before .before .magnitude .ensures ∙ ap natAbs f in
     prints-then
-    (prints-then (prints-same (ap sign f) (c .before .before .before .before .before .before .before .before .before .before .put-sign .ensures)) (prints-same (ap (λ (k : ℕ). decimal (k / 100)) size) (c .before .before .before .before .before .before .put-decimal .ensures)))
+    (prints-then (prints-same (ap sign f) (signed .put-sign .ensures))
+    (prints-same (ap (λ (k : ℕ). decimal (k / 100)) size) (whole .put-decimal .ensures)))
     (prints-same (ap decimals size) (c .before .before .put-decimals .ensures))
 
 pub put-hundredths-spec : {M : Type 1} → statement M
