@@ -60,7 +60,7 @@ fn is_no_mark(marks: &[u8], r: usize) -> bool
 }
 
 // 14 where the byte of a row is no mark, or 0. Bytes past the rows are not looked at, and a missing byte reads as 0.
-// For calls that are handed marks, such as a sheet of the shortlisted runs or their costs; no call is so far.
+// For calls that are handed marks, as the shift sheet is.
 pub fn mark_values_refusal(log: &[i32], marks: &[u8]) -> u8
     ensures { λ k. ⌜ k ≡ markValuesRefusal (now (log .entry)) (now (marks .entry)) ⌝ }
 {

@@ -3,25 +3,24 @@ use mathlib.Core.Path.{_≡_, sym, _∙_}
 use Prim.Native.Nat.{ℕ, _≤_}
 use native.Mathlib.Omega.{arith}
 use mathlib.Core.Bool.{Bool, true, false, cond}
-use mathlib.Core.List.{List, []}
+use mathlib.Core.List.{List}
 use lib.Dec.{eqb}
 use lib.ListN.{length}
 use borrow.Author.Tests.{eq-eqb, ne-eqb}
 use Rattle.laws.specs.Outcome.{Outcome, accepted, refused}
 use Rattle.laws.specs.Laws.Checks.{then-none}
+use Rattle.laws.specs.Laws.Passing.{passing-in-order}
 use Rattle.log.specs.Log.{Log, rowCount, logRefusal, marksRefusal}
 use Rattle.log.specs.Laws.Log as runs
 use Rattle.preference.specs.Valid.{listRefusal}
 use Rattle.preference.specs.declared.PreferenceList.{PreferenceList}
-use Rattle.pareto.specs.Best.{bestMatches, marksAfter}
+use Rattle.pareto.specs.Best.{isBest, bestMatches}
 use Rattle.pareto.specs.Call.{counting, Leaves}
 use Rattle.pareto.specs.Checked.{checkedRefusal}
 use Rattle.pareto.specs.Laws.Call.{refused-leaves, accepted-leaves, leaves-refused, leaves-accepted}
-use Rattle.pareto.specs.Laws.Marks.{marked-best}
 use Rattle.lattice.specs.Engine.{latticeRefusal, latticeCall}
 use Rattle.window.specs.Engine.{sizesRefusal, windowRefusal, windowCall}
 use Rattle.selection.specs.Selection.{eitherRefusal, eitherCall}
-use Rattle.selection.specs.Laws.Counted.{count-few}
 
 -- ---- the log of an accepted call is accepted, and has at most 1,024 rows
 
@@ -70,7 +69,8 @@ either-few l log marks z = few log (either-log l log marks z)
 
 -- and no more rows are on the shortlist
 pub best-few : (l : PreferenceList) (log : Log) → length (bestMatches l log) ≤ rowCount (log .values)
-best-few l log = rw (sym (marked-best l log [])) (count-few (marksAfter l log []) (rowCount (log .values)))
+unfolding bestMatches
+best-few l log = passing-in-order (isBest l log) (rowCount (log .values)) .few
 
 -- ---- the engines' own buffers
 
