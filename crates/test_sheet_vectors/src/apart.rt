@@ -20,7 +20,7 @@ fn without(n: u64, d: usize) -> u64 {
     left
 }
 
-// The figure of n there, of which it has no fewer than the least; else the sign in front of them, or a blank.
+// At distance d of a number with no fewer figures than the least: a figure, the sign in front of them, or a blank.
 fn figure(n: u64, negative: bool, least: usize, d: usize) -> u8 {
     let left = without(n, d);
     if (d < least) | (0 < left) {
@@ -74,7 +74,7 @@ fn in_run(log: &[i32], r: usize, at: usize) -> u8 {
     value(nested::value(log, r, column), 1, 11 - (at - 17) % 12)
 }
 
-// From the right; generated sheets have fewer than ten pages.
+// The text is written backwards, n for a number; generated sheets have fewer than ten pages.
 fn in_foot(page: usize, pages: usize, d: usize) -> u8 {
     if d == 0 {
         return figure(pages as u64, false, 1, 0);
@@ -87,7 +87,7 @@ fn in_foot(page: usize, pages: usize, d: usize) -> u8 {
 
 // ---- the sheet of some rows
 
-// The number of its last line, the foot behind the last run, counted from 0.
+// The number of its last line, counted from 0: the foot behind the last run. No log has more than 1,024.
 pub fn last_line(runs: usize) -> usize
     ensures { λ r. ⌜ r ≤ 2000 ⌝ }
 {

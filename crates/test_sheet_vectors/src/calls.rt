@@ -6,7 +6,7 @@ use test_support::show;
 // What the output holds before a call: no byte of a sheet.
 pub const OLD: u8 = 126;
 
-// The bytes of the longest sheet, and a place past every sheet.
+// How long the sheet of 1,024 runs is.
 pub const LONGEST: usize = 108732;
 
 // A call lent the first bytes of an output; refused by 99 where there are not so many.
@@ -17,15 +17,14 @@ pub fn print_front(log: &[i32], marks: &[u8], out: &mut [u8], room: usize) -> Sh
     sheet_pages::print(log, marks, &mut out[0..room])
 }
 
+// Of the marks, the first three.
 fn show_handed(log: &[i32], marks: &[u8], room: usize) {
     show::text(b"log");
     show::number(log.len() as u64);
-    show::text(b", marks");
-    show::number(marks.len() as u64);
-    show::text(b", first");
-    lent::show_front(marks, 3);
     show::text(b", output");
     show::number(room as u64);
+    show::text(b", marks");
+    lent::show_front(marks, 3);
 }
 
 // How many bytes from a place on are not as they were.

@@ -3,30 +3,32 @@
 use crate::calls;
 use crate::calls::LONGEST;
 
-// No sheet has this place, so that nothing of it is printed.
+// No sheet has this place, so that nothing of it is shown.
 const NOWHERE: usize = LONGEST + 1;
 
-// A log of so many numbers, so many mark bytes, which begin with a, b and c and go on with 1, and so much output.
-fn case(numbers: usize, bytes: usize, a: u8, b: u8, c: u8, room: usize, from: usize) {
+// A log of so many numbers, all of them 0.
+fn zeros(numbers: usize, marks: &[u8], room: usize, from: usize) {
     let log = [0i32; 8200];
-    let mut marks = [1u8; 1025];
-    marks[0] = a;
-    marks[1] = b;
-    marks[2] = c;
     if 8200 < numbers {
         return;
     }
-    if 1025 < bytes {
-        return;
-    }
-    calls::show(&log[0..numbers], &marks[0..bytes], room, from);
+    calls::show(&log[0..numbers], marks, room, from);
 }
 
 fn runs(n: u16, room: usize, from: usize) {
-    case(8 * (n as usize), 1024, 1, 1, 1, room, from);
+    let marks = [1u8; 1025];
+    zeros(8 * (n as usize), &marks, room, from);
 }
 
-// The empty sheet is printed whole, those of 51 and 1,024 runs from the last run of a full page on.
+// So many of three mark bytes are lent.
+fn case(numbers: usize, marks: [u8; 3], bytes: usize, room: usize) {
+    if 3 < bytes {
+        return;
+    }
+    zeros(numbers, &marks[0..bytes], room, NOWHERE);
+}
+
+// The empty sheet is shown whole, that of 51 runs from the last of page 1 on, that of 1,024 from the last.
 fn lengths() {
     runs(0, LONGEST, 0);
     runs(1, LONGEST, NOWHERE);
@@ -38,18 +40,18 @@ fn lengths() {
     runs(1024, LONGEST, 108528);
 }
 
-// A call that more than one check refuses comes back with the first. Where bytes past the rows are lent, no check looks
-// at them.
+// A call that several checks refuse comes back with the first of them; mark bytes past the rows are not looked at.
 fn order() {
-    case(15, 2, 2, 2, 2, 0, NOWHERE);
-    case(8200, 1025, 2, 2, 2, 0, NOWHERE);
-    case(16, 1, 2, 2, 2, 0, NOWHERE);
-    case(16, 1, 1, 1, 1, 408, NOWHERE);
-    case(16, 2, 1, 2, 1, 0, NOWHERE);
-    case(16, 2, 1, 2, 1, 408, NOWHERE);
-    case(16, 2, 255, 0, 1, 0, NOWHERE);
-    case(16, 3, 1, 1, 2, 407, NOWHERE);
-    case(16, 3, 1, 1, 2, 408, NOWHERE);
+    case(15, [2, 2, 2], 3, 0);
+    runs(1025, 0, NOWHERE);
+    runs(1025, LONGEST, NOWHERE);
+    case(16, [2, 2, 2], 1, 0);
+    case(16, [1, 1, 1], 1, 408);
+    case(16, [1, 2, 1], 2, 0);
+    case(16, [1, 2, 1], 2, 408);
+    case(16, [255, 0, 1], 2, 0);
+    case(16, [1, 1, 2], 3, 407);
+    case(16, [1, 1, 2], 3, 408);
 }
 
 // One byte too short, and long enough.

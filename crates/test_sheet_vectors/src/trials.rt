@@ -1,6 +1,7 @@
 // Generated logs against the layout written apart, over the whole output.
 ghost use Prim.Native.Nat.{_≤_};
 use crate::apart;
+use crate::calls;
 use crate::calls::OLD;
 use crate::generated;
 use sheet_pages::SheetAnswer;
@@ -43,7 +44,7 @@ fn tried(log: &[i32], numbers: usize, marks: &[u8], rows: &[usize], runs: usize)
     if log.len() < numbers {
         return ROOM as u64;
     }
-    let answer = sheet_pages::print(&log[0..numbers], marks, &mut out);
+    let answer = calls::print_front(&log[0..numbers], marks, &mut out, ROOM);
     if let SheetAnswer::Printed(n) = answer {
         if n == 102 * (apart::last_line(runs) + 1) {
             return differing(&out, log, rows, runs);
@@ -68,13 +69,10 @@ fn with_seed(t: Tally, seed: u32) -> Tally {
 }
 
 fn show_tally(t: Tally) {
-    show::text(b"generated logs");
+    show::text(b"generated logs, their runs, pages, and bytes that differ:");
     show::number(t.logs);
-    show::text(b", runs");
     show::number(t.runs);
-    show::text(b", pages");
     show::number(t.pages);
-    show::text(b", bytes that differ");
     show::number(t.differing);
     show::end_line();
 }

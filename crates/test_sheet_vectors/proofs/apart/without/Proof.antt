@@ -1,8 +1,5 @@
 use borrow.Author.Needs.{needs}
-use native.Mathlib.Omega.{arith}
-use Prim.Native.Nat.{ℕ, _≤_, _<_, _-_, _+_, _*_}
-use mathlib.Core.Path.{_≡_}
-use lib.ListN.{length}
+use Prim.Native.Nat.{_-_}
 use Rattle.test_sheet_vectors.proofs.apart.without.Statement.{statement}
 use Rattle.test_sheet_vectors.proofs.apart.without.Tie as tie
 

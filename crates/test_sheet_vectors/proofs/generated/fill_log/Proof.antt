@@ -1,11 +1,9 @@
 use borrow.Author.Needs.{needs}
-use native.Mathlib.Omega.{arith}
-use Prim.Native.Nat.{ℕ, _≤_, _<_, _-_, _+_, _*_}
+use Prim.Native.Nat.{_-_}
 use mathlib.Core.Path.{_≡_}
 use lib.ListN.{length}
 use Rattle.test_sheet_vectors.proofs.generated.fill_log.Statement.{statement}
 use Rattle.test_sheet_vectors.proofs.generated.fill_log.Tie as tie
-use Rattle.test_sheet_vectors.proofs.generated.value_at.Reads as value-at-reads
 
 abbrev Inv-loop : tie.InvT-loop
 Inv-loop seed log₀ i₀ log i = length log ≡ length log₀

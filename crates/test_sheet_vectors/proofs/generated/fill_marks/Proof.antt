@@ -1,12 +1,9 @@
 use borrow.Author.Needs.{needs}
-use native.Mathlib.Omega.{arith}
-use Prim.Native.Nat.{ℕ, _≤_, _<_, _-_, _+_, _*_}
+use Prim.Native.Nat.{_-_}
 use mathlib.Core.Path.{_≡_}
 use lib.ListN.{length}
 use Rattle.test_sheet_vectors.proofs.generated.fill_marks.Statement.{statement}
 use Rattle.test_sheet_vectors.proofs.generated.fill_marks.Tie as tie
-use Rattle.test_sheet_vectors.proofs.generated.mark_at.Reads as mark-at-reads
-use Rattle.test_sheet_vectors.proofs.generated.put_if_marked.Reads as put-if-marked-reads
 
 abbrev Inv-loop : tie.InvT-loop
 Inv-loop seed marks₀ rows₀ count₀ i₀ marks rows count i = (length marks ≡ length marks₀) × (length rows ≡ length rows₀)

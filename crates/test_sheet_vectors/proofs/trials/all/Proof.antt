@@ -1,13 +1,7 @@
 use borrow.Author.Needs.{needs}
-use native.Mathlib.Omega.{arith}
-use Prim.Native.Nat.{ℕ, _≤_, _<_, _-_, _+_, _*_}
-use mathlib.Core.Path.{_≡_}
-use lib.ListN.{length}
+use Prim.Native.Nat.{_≤_, _-_}
 use Rattle.test_sheet_vectors.proofs.trials.all.Statement.{statement}
 use Rattle.test_sheet_vectors.proofs.trials.all.Tie as tie
-use Rattle.test_sheet_vectors.proofs.trials.show_tally.Reads as show-tally-reads
-use Rattle.test_sheet_vectors.proofs.trials.with_seed.Reads as with-seed-reads
-use Rattle.test_support.proofs.figures.next.Reads as next-reads
 
 abbrev Inv-loop : tie.InvT-loop
 Inv-loop t₀ seed₀ n₀ t seed n = n ≤ 500

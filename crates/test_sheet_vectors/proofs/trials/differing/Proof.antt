@@ -1,12 +1,8 @@
 use borrow.Author.Needs.{needs}
-use native.Mathlib.Omega.{arith}
-use Prim.Native.Nat.{ℕ, _≤_, _<_, _-_, _+_, _*_}
-use mathlib.Core.Path.{_≡_}
+use Prim.Native.Nat.{_≤_, _-_}
 use lib.ListN.{length}
 use Rattle.test_sheet_vectors.proofs.trials.differing.Statement.{statement}
 use Rattle.test_sheet_vectors.proofs.trials.differing.Tie as tie
-use Rattle.test_sheet_vectors.proofs.apart.byte.Reads as byte-reads
-use Rattle.test_sheet_vectors.proofs.trials.differs.Reads as differs-reads
 
 abbrev Inv-loop : tie.InvT-loop
 Inv-loop out log rows runs n₀ i₀ n i = (i ≤ length out) × (n ≤ i)
