@@ -7,19 +7,21 @@ use Rattle.arith.specs.Gap.{gap}
 use Rattle.arith.specs.Ceil.{ceilDiv}
 use Rattle.constructor.specs.declared.Constructor.{Constructor}
 use Rattle.constructor.specs.declared.Constructor.the-variants.{Lowest, Highest, Around, Between, Layered}
+use Rattle.constructor.specs.declared.Constructor.the-variants.{BetweenTrivial}
 use Rattle.constructor.specs.declared.Scale.{Scale}
 use Rattle.constructor.specs.declared.Target.{Target}
 use Rattle.constructor.specs.declared.Layering.{Layering}
 use Rattle.constructor.specs.declared.Layering.the-variants.{Numeric, Layers}
 
 -- "The distance of v is v − lo (LOWEST), hi − v (HIGHEST), |v − z| (AROUND), or how far v lies outside low..up
--- (BETWEEN)."
+-- (BETWEEN)." Kind 08 of document 02 has BETWEEN's.
 unfoldable pub distance : Constructor → ℤ → ℕ
 distance (Lowest lo hi step) v = gap v lo
 distance (Highest lo hi step) v = gap hi v
 distance (Around lo hi step z) v = gap v z + gap z v
 distance (Between lo hi step low up) v = gap low v + gap v up
 distance (Layered top others) v = 0
+distance (BetweenTrivial lo hi step low up) v = gap low v + gap v up
 
 -- the least and the greatest number of 32 bits
 abbrev pub least : ℤ
@@ -35,6 +37,7 @@ scaleOf (Highest lo hi step) = record { lo = lo; hi = hi; step = step }
 scaleOf (Around lo hi step z) = record { lo = lo; hi = hi; step = step }
 scaleOf (Between lo hi step low up) = record { lo = lo; hi = hi; step = step }
 scaleOf (Layered top others) = record { lo = least; hi = greatest; step = 1 }
+scaleOf (BetweenTrivial lo hi step low up) = record { lo = lo; hi = hi; step = step }
 
 -- the values at distance 0; bounds that no i32 lies outside where the form has none (Laws/Target.antt)
 abbrev pub targetOf : Constructor → Target
@@ -43,6 +46,7 @@ targetOf (Highest lo hi step) = record { low = hi; up = greatest }
 targetOf (Around lo hi step z) = record { low = z; up = z }
 targetOf (Between lo hi step low up) = record { low = low; up = up }
 targetOf (Layered top others) = record { low = least; up = greatest }
+targetOf (BetweenTrivial lo hi step low up) = record { low = low; up = up }
 
 -- v lies in lo..hi
 unfoldable pub inside : Constructor → ℤ → Bool
@@ -59,6 +63,7 @@ layeringOf (Highest lo hi step) = Numeric
 layeringOf (Around lo hi step z) = Numeric
 layeringOf (Between lo hi step low up) = Numeric
 layeringOf (Layered top others) = Layers top others
+layeringOf (BetweenTrivial lo hi step low up) = Numeric
 
 abbrev pub topOr : Layering → ℕ → ℕ
 topOr Numeric m = m

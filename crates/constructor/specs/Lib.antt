@@ -1,3 +1,4 @@
 pub mod Level
+pub mod Side
 pub mod Valid
 pub mod Laws

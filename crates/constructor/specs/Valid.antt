@@ -8,6 +8,7 @@ use Rattle.laws.specs.Checks.{_gives_, _then_}
 use Rattle.constructor.specs.Level.{maxLevel, layeringOf}
 use Rattle.constructor.specs.declared.Constructor.{Constructor}
 use Rattle.constructor.specs.declared.Constructor.the-variants.{Lowest, Highest, Around, Between, Layered}
+use Rattle.constructor.specs.declared.Constructor.the-variants.{BetweenTrivial}
 use Rattle.constructor.specs.declared.Layering.{Layering}
 use Rattle.constructor.specs.declared.Layering.the-variants.{Numeric, Layers}
 
@@ -18,6 +19,7 @@ sound (Highest lo hi step) = leZ lo hi && ltb 0 step
 sound (Around lo hi step z) = leZ lo z && leZ z hi && ltb 0 step
 sound (Between lo hi step low up) = leZ lo low && leZ low up && leZ up hi && ltb 0 step
 sound (Layered top others) = ltb 0 top && leb top maxLayer && leb others top
+sound (BetweenTrivial lo hi step low up) = leZ lo low && leZ low up && leZ up hi && ltb 0 step
 
 -- 6, then 7 for "M above 65,535"
 unfoldable pub constructorRefusal : Constructor → ℕ

@@ -1,11 +1,13 @@
-// Base preference constructors (000, section 3.1.1): what document 01 calls the five forms of a wish. Distance, level,
+// Base preference constructors (000, section 3.1.1): what document 01 calls the forms of a wish. Distance, level, side,
 // greatest level and the checks 6, 7 and 3 of one form. Levels and checks go by its cases here alone; the reader makes
 // and the writer takes them.
 ghost use mathlib.Core.Path.{_≡_};
-ghost use Prim.Native.Nat.{_+_, max};
+ghost use Prim.Native.Nat.{_+_, _-_, max};
+ghost use lib.ListN.{getD};
 ghost use Rattle.arith.specs.Gap.{gap};
 ghost use Rattle.arith.specs.Ceil.{ceilDiv};
 ghost use Rattle.constructor.specs.Level.{scaleOf, targetOf, layeringOf, numericLevel, maxLevel, inside};
+ghost use Rattle.constructor.specs.Side.{sideBy, sideOf, isPair, pairOf};
 ghost use Rattle.constructor.specs.Valid.{sound, constructorRefusal, layerRefusal};
 
 // The least and the greatest number of 32 bits.
@@ -41,6 +43,14 @@ pub enum Constructor {
         top: u8,
         others: u8,
     },
+    // Document 02, order 2, kind 08: BETWEEN with trivial SV-semantics (000, Theorem 16).
+    BetweenTrivial {
+        lo: i32,
+        hi: i32,
+        step: u32,
+        low: i32,
+        up: i32,
+    },
 }
 
 // The values that a form takes, lo to hi, and its step. LAYERED takes every value.
@@ -54,6 +64,13 @@ pub struct Scale {
 pub struct Target {
     pub low: i32,
     pub up: i32,
+}
+
+// Where a value lies: below the values at distance 0, among them, or above them.
+pub enum Side {
+    Below,
+    Inside,
+    Above,
 }
 
 // What decides a level: the distance, or the layers of named values.
@@ -97,6 +114,17 @@ pub fn scale_of(c: Constructor) -> Scale
             hi: GREATEST,
             step: 1,
         },
+        Constructor::BetweenTrivial {
+            lo,
+            hi,
+            step,
+            low: _,
+            up: _,
+        } => Scale {
+            lo: lo,
+            hi: hi,
+            step: step,
+        },
     }
 }
 
@@ -131,6 +159,13 @@ pub fn layering_of(c: Constructor) -> Layering
             top: top,
             others: others,
         },
+        Constructor::BetweenTrivial {
+            lo: _,
+            hi: _,
+            step: _,
+            low: _,
+            up: _,
+        } => Layering::Numeric,
     }
 }
 
@@ -160,10 +195,17 @@ pub fn target_of(c: Constructor) -> Target
             low: LEAST,
             up: GREATEST,
         },
+        Constructor::BetweenTrivial {
+            lo: _,
+            hi: _,
+            step: _,
+            low,
+            up,
+        } => Target { low, up },
     }
 }
 
-// The level of v by its distance from low..up: one form for the five, without a match.
+// The level of v by its distance from low..up: one form for all, without a match.
 pub fn level_outside(low: i32, up: i32, step: u32, v: i32) -> u64
     ensures { λ r. ⌜ r ≡ ceilDiv (gap low v + gap v up) step ⌝ }
 {
@@ -234,6 +276,16 @@ fn is_sound(c: Constructor) -> bool
         Constructor::Layered { top, others } => (0 < top)
             & (top <= limits::MAX_LAYER)
             & (others <= top),
+        Constructor::BetweenTrivial {
+            lo,
+            hi,
+            step,
+            low,
+            up,
+        } => arith::at_most(lo, low)
+            & arith::at_most(low, up)
+            & arith::at_most(up, hi)
+            & (0 < step),
     }
 }
 
@@ -259,5 +311,90 @@ pub fn layer_refusal(c: Constructor, layer: u8) -> u8
     match y {
         Layering::Numeric => 3,
         Layering::Layers { top, others: _ } => if top < layer { 6 } else { 0 },
+    }
+}
+
+// ---- sides and pairs (document 02, order 2)
+
+// The side of low..up on which v lies.
+pub fn side_outside(low: i32, up: i32, v: i32) -> Side
+    ensures { λ r. ⌜ r ≡ sideBy low up v ⌝ }
+{
+    if !arith::at_most(low, v) {
+        return Side::Below;
+    }
+    if arith::at_most(v, up) {
+        Side::Inside
+    } else {
+        Side::Above
+    }
+}
+
+// The side of v under a form.
+pub fn side_of(c: Constructor, v: i32) -> Side
+    ensures { λ r. ⌜ r ≡ sideOf c v ⌝ }
+{
+    let t = target_of(c);
+    let low = t.low;
+    let up = t.up;
+    side_outside(low, up, v)
+}
+
+// Whether a level under the form has two parts.
+pub fn is_pair(c: Constructor) -> bool
+    ensures { λ r. ⌜ r ≡ isPair c ⌝ }
+{
+    match c {
+        Constructor::Lowest {
+            lo: _,
+            hi: _,
+            step: _,
+        } => false,
+        Constructor::Highest {
+            lo: _,
+            hi: _,
+            step: _,
+        } => false,
+        Constructor::Around {
+            lo: _,
+            hi: _,
+            step: _,
+            z: _,
+        } => false,
+        Constructor::Between {
+            lo: _,
+            hi: _,
+            step: _,
+            low: _,
+            up: _,
+        } => false,
+        Constructor::Layered { top: _, others: _ } => false,
+        Constructor::BetweenTrivial {
+            lo: _,
+            hi: _,
+            step: _,
+            low: _,
+            up: _,
+        } => true,
+    }
+}
+
+fn one_less(level: u64) -> u64
+    ensures { λ r. ⌜ r ≡ level - 1 ⌝ }
+{
+    if level == 0 { 0 } else { level - 1 }
+}
+
+// Part `half` of a pair, 0 or 1: 1 is taken off the part of the other side.
+pub fn part_of(level: u64, side: Side, half: usize) -> u64
+    ensures { λ r. ⌜ r ≡ getD (pairOf level side) half 0 ⌝ }
+{
+    if 1 < half {
+        return 0;
+    }
+    match side {
+        Side::Below => if half == 0 { one_less(level) } else { level },
+        Side::Inside => 0,
+        Side::Above => if half == 0 { level } else { one_less(level) },
     }
 }

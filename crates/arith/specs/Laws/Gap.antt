@@ -38,6 +38,13 @@ none (pos a) (negsuc b) h = false-true h
 none (negsuc a) (pos b) h = refl
 none (negsuc a) (negsuc b) h = let l = leb-true b a h in omega arith
 
+some : (a b : ℤ) → leZ a b ≡ false → 0 < flat a b
+unfolding flat
+some (pos a) (pos b) h = let l = leb-false a b h in omega arith
+some (pos a) (negsuc b) h = omega arith
+some (negsuc a) (pos b) h = false-true (sym h)
+some (negsuc a) (negsuc b) h = let l = leb-false b a h in omega arith
+
 up : (a b c : ℤ) → leZ a b ≡ true → flat a c ≤ flat b c
 unfolding flat
 up (pos a) (pos b) (pos c) h = let l = leb-true a b h in omega arith
@@ -93,6 +100,9 @@ le-trans-Z (negsuc a) (negsuc b) (negsuc c) h k = le-leb c a (le-trans (leb-true
 
 pub gap-none : (a b : ℤ) → leZ a b ≡ true → gap a b ≡ 0
 gap-none a b h = gap-flat a b ∙ none a b h
+
+pub gap-some : (a b : ℤ) → leZ a b ≡ false → 0 < gap a b
+gap-some a b h = rw (gap-flat a b) (some a b h)
 
 pub gap-up : (a b c : ℤ) → leZ a b ≡ true → gap a c ≤ gap b c
 gap-up a b c h = omega (arith, gap-flat a c, gap-flat b c, up a b c h)

@@ -41,6 +41,18 @@ at-most-requires-7 c κs = search needs
 enum-known-c-5 : tie.Need-enum-known-c-5
 enum-known-c-5 c = search needs
 
+enum-known-c-6 : tie.Need-enum-known-c-6
+enum-known-c-6 c = search needs
+
+at-most-requires-8 : tie.Need-at-most-requires-8
+at-most-requires-8 c κs = search needs
+
+at-most-requires-9 : tie.Need-at-most-requires-9
+at-most-requires-9 c κs = search needs
+
+at-most-requires-10 : tie.Need-at-most-requires-10
+at-most-requires-10 c κs = search needs
+
 returns : tie.Need-returns
 unfolding sound
 returns c =
@@ -83,6 +95,22 @@ returns-5 : tie.Need-returns-5
 unfolding sound
 returns-5 c = sym (ap sound (c .before .c5 .given .1))
 
+returns-6 : tie.Need-returns-6
+unfolding sound
+returns-6 c =
+    let e = c .before .before .before .before .c6 .given in
+    let k = c .before .before .before .known-told6 .given in
+    rw (
+      c .before .before .at-most8 .ensures,
+      c .before .at-most9 .ensures,
+      c .at-most10 .ensures,
+      num (e .0 .0) (k .0 .1),
+      num (e .0 .1 .0) (k .1 .0 .1),
+      num (e .0 .1 .1 .1 .0) (k .1 .1 .1 .0 .1),
+      num (e .0 .1 .1 .1 .1 .0) (k .1 .1 .1 .1 .0 .1),
+    )
+    (sym (ap sound (e .1)))
+
 pub is-sound-spec : {M : Type 1} → statement M
 is-sound-spec =
     tie.close
@@ -99,8 +127,13 @@ is-sound-spec =
     at-most-requires-6
     at-most-requires-7
     enum-known-c-5
+    enum-known-c-6
+    at-most-requires-8
+    at-most-requires-9
+    at-most-requires-10
     returns
     returns-2
     returns-3
     returns-4
-    returns-5)
+    returns-5
+    returns-6)

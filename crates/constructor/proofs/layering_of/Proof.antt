@@ -19,6 +19,9 @@ enum-told-4 c = search needs
 enum-known-c : tie.Need-enum-known-c
 enum-known-c c = search needs
 
+enum-told-5 : tie.Need-enum-told-5
+enum-told-5 c = search needs
+
 returns : tie.Need-returns
 returns c = search needs
 
@@ -34,6 +37,9 @@ returns-4 c = search needs
 returns-5 : tie.Need-returns-5
 returns-5 c = sym (ap layeringOf (c .before .c .given .1))
 
+returns-6 : tie.Need-returns-6
+returns-6 c = search needs
+
 pub layering-of-spec : {M : Type 1} → statement M
 layering-of-spec =
     tie.close
@@ -43,8 +49,10 @@ layering-of-spec =
     enum-told-3
     enum-told-4
     enum-known-c
+    enum-told-5
     returns
     returns-2
     returns-3
     returns-4
-    returns-5)
+    returns-5
+    returns-6)

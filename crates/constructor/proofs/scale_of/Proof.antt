@@ -20,6 +20,9 @@ enum-known-c-4 c = search needs
 enum-told : tie.Need-enum-told
 enum-told c = search needs
 
+enum-known-c-5 : tie.Need-enum-known-c-5
+enum-known-c-5 c = search needs
+
 returns : tie.Need-returns
 returns c =
     let e = c .before .c .given in
@@ -47,6 +50,12 @@ returns-4 c =
 returns-5 : tie.Need-returns-5
 returns-5 c = sym (ap scaleOf (c .enum-told .given .1))
 
+returns-6 : tie.Need-returns-6
+returns-6 c =
+    let e = c .before .c5 .given in
+    let k = c .known-told5 .given in
+    rw (num (e .0 .0) (k .0 .1), num (e .0 .1 .0) (k .1 .0 .1)) (sym (ap scaleOf (e .1)))
+
 pub scale-of-spec : {M : Type 1} → statement M
 scale-of-spec =
     tie.close
@@ -56,8 +65,10 @@ scale-of-spec =
     enum-known-c-3
     enum-known-c-4
     enum-told
+    enum-known-c-5
     returns
     returns-2
     returns-3
     returns-4
-    returns-5)
+    returns-5
+    returns-6)

@@ -17,6 +17,7 @@ use Rattle.constructor.specs.Level.{distance, scaleOf, inside, numericLe
 use Rattle.constructor.specs.Valid.{sound}
 use Rattle.constructor.specs.declared.Constructor.{Constructor}
 use Rattle.constructor.specs.declared.Constructor.the-variants.{Lowest, Highest, Around, Between, Layered}
+use Rattle.constructor.specs.declared.Constructor.the-variants.{BetweenTrivial}
 use Rattle.constructor.specs.declared.Layering.the-variants.{Numeric}
 
 -- with low not above up, a value of lo..hi is no farther off than one of the ends
@@ -38,6 +39,13 @@ ordered-between lo hi low up b s =
 ordered-around : (lo hi z : ℤ) (b : Bool) → leZ lo z && leZ z hi && b ≡ true → (leZ lo z ≡ true) × (leZ z hi ≡ true)
 ordered-around lo hi z b s = both (leZ lo z) (leZ z hi) (both (leZ lo z && leZ z hi) b s .0)
 
+far-between : (lo hi low up v : ℤ) (b : Bool) → leZ lo low && leZ low up && leZ up hi && b ≡ true
+    → leZ lo v && leZ v hi ≡ true
+    → (gap low v + gap v up ≤ gap low lo + gap lo up) ⊎ (gap low v + gap v up ≤ gap low hi + gap hi up)
+far-between lo hi low up v b s h =
+    let i = both (leZ lo v) (leZ v hi) h in
+    mid lo hi low up v (i .0) (i .1) (ordered-between lo hi low up b s .1) (leZ v up) refl
+
 -- the farther end
 far : (c : Constructor) (v : ℤ) → sound c ≡ true → inside c v ≡ true
     → (distance c v ≤ distance c (scaleOf c .lo)) ⊎ (distance c v ≤ distance c (scaleOf c .hi))
@@ -48,20 +56,22 @@ far (Around lo hi step z) v s h =
     let i = both (leZ lo v) (leZ v hi) h in
     ⊎-elim (λ e. inl (omega arith)) (λ e. inr (omega arith))
     (mid lo hi z z v (i .0) (i .1) (le-refl-Z z) (leZ v z) refl)
-far (Between lo hi step low up) v s h =
-    let i = both (leZ lo v) (leZ v hi) h in
-    mid lo hi low up v (i .0) (i .1) (ordered-between lo hi low up (ltb 0 step) s .1) (leZ v up) refl
+far (Between lo hi step low up) v s h = far-between lo hi low up v (ltb 0 step) s h
 far (Layered top others) v s h = inl (omega arith)
+far (BetweenTrivial lo hi step low up) v s h = far-between lo hi low up v (ltb 0 step) s h
+
+between-ends : (lo hi low up : ℤ) (b : Bool) → leZ lo low && leZ low up && leZ up hi && b ≡ true → leZ lo hi ≡ true
+between-ends lo hi low up b s =
+    let p = ordered-between lo hi low up b s in le-trans-Z lo low hi (p .0) (le-trans-Z low up hi (p .1) (p .2))
 
 ordered : (c : Constructor) → layeringOf c ≡ Numeric → sound c ≡ true → leZ (scaleOf c .lo) (scaleOf c .hi) ≡ true
 unfolding sound
 ordered (Lowest lo hi step) y s = both (leZ lo hi) (ltb 0 step) s .0
 ordered (Highest lo hi step) y s = both (leZ lo hi) (ltb 0 step) s .0
 ordered (Around lo hi step z) y s = let p = ordered-around lo hi z (ltb 0 step) s in le-trans-Z lo z hi (p .0) (p .1)
-ordered (Between lo hi step low up) y s =
-    let p = ordered-between lo hi low up (ltb 0 step) s in
-    le-trans-Z lo low hi (p .0) (le-trans-Z low up hi (p .1) (p .2))
+ordered (Between lo hi step low up) y s = between-ends lo hi low up (ltb 0 step) s
 ordered (Layered top others) y s = refl
+ordered (BetweenTrivial lo hi step low up) y s = between-ends lo hi low up (ltb 0 step) s
 
 -- no value of lo..hi has a level above both ends'
 pub level-ends : (c : Constructor) (v : ℤ) → sound c ≡ true → inside c v ≡ true

@@ -12,6 +12,7 @@ use Rattle.constructor.specs.Level.{maxLevel, layeringOf}
 use Rattle.constructor.specs.Valid.{sound, constructorRefusal, layerRefusal}
 use Rattle.constructor.specs.declared.Constructor.{Constructor}
 use Rattle.constructor.specs.declared.Constructor.the-variants.{Lowest, Highest, Around, Between, Layered}
+use Rattle.constructor.specs.declared.Constructor.the-variants.{BetweenTrivial}
 use Rattle.constructor.specs.declared.Layering.the-variants.{Layers}
 
 pub record ConstructorAccepted (c : Constructor) : Type 0 where
@@ -41,6 +42,8 @@ layers-sound (Lowest lo hi step) top others y s = let z : _≡_ {A = ℕ} 0 1 = 
 layers-sound (Highest lo hi step) top others y s = let z : _≡_ {A = ℕ} 0 1 = cc in absurd (omega arith)
 layers-sound (Around lo hi step m) top others y s = let z : _≡_ {A = ℕ} 0 1 = cc in absurd (omega arith)
 layers-sound (Between lo hi step low up) top others y s = let z : _≡_ {A = ℕ} 0 1 = cc in absurd (omega arith)
+layers-sound (BetweenTrivial lo hi step low up) top others y s =
+    let z : _≡_ {A = ℕ} 0 1 = cc in absurd (omega arith)
 layers-sound (Layered t o) top others y s =
     let e : t ≡ top = cc in
     let f : o ≡ others = cc in
