@@ -1,5 +1,5 @@
 -- Document 01, "Levels": the level of a value under a preference of the list, its greatest level, and the call that
--- asks for one.
+-- asks for one; document 02, order 2: its side.
 use Prim.Native.Nat.{ℕ}
 use mathlib.Core.Bool.{Bool, not, _&&_, cond}
 use lib.Dec.{leb, ltb, eqb}
@@ -9,8 +9,10 @@ use Rattle.laws.specs.First.{firstAt}
 use Rattle.laws.specs.Outcome.{Outcome, accepted, refused}
 use Rattle.arith.specs.Gap.{eqZ}
 use Rattle.constructor.specs.Level.{numericLevel, maxLevel, layeringOf, inside}
+use Rattle.constructor.specs.Side.{sideOf}
 use Rattle.constructor.specs.declared.Layering.{Layering}
 use Rattle.constructor.specs.declared.Layering.the-variants.{Numeric, Layers}
+use Rattle.constructor.specs.declared.Side.{Side}
 use Rattle.preference.specs.List.{constructorAt, namedAt, namedPlaces}
 use Rattle.preference.specs.Valid.{listRefusal}
 use Rattle.preference.specs.declared.PreferenceList.{PreferenceList}
@@ -37,6 +39,10 @@ levelUnder l i v (Layers top others) = layerOf l i v others
 unfoldable pub levelAt : PreferenceList → ℕ → ℤ → ℕ
 levelAt l i v = levelUnder l i v (layeringOf (constructorAt l i))
 
+-- the side of v under it
+unfoldable pub sideAt : PreferenceList → ℕ → ℤ → Side
+sideAt l i v = sideOf (constructorAt l i) v
+
 -- M of the preference at place i
 unfoldable pub maxAt : PreferenceList → ℕ → ℕ
 maxAt l i = maxLevel (constructorAt l i)
@@ -49,7 +55,16 @@ valueRefusal l i v = not (inside (constructorAt l i) v) gives 8
 unfoldable pub levelRefusal : PreferenceList → ℕ → ℤ → ℕ
 levelRefusal l i v = listRefusal l then leb (l .count) i gives 10 then valueRefusal l i v
 
--- the number or the value that an answer stands for
-abbrev pub outcomeOf : LevelAnswer → Outcome ℕ
-outcomeOf (Level n) = accepted n
+-- "The level of any value is now given with its side"
+pub record Told : Type 0 where
+  pub level : ℕ
+  pub side : Side
+
+-- what the call tells of v under the preference at place i
+abbrev pub toldAt : PreferenceList → ℕ → ℤ → Told
+toldAt l i v = record { level = levelAt l i v; side = sideAt l i v }
+
+-- the number or the values that an answer stands for
+abbrev pub outcomeOf : LevelAnswer → Outcome Told
+outcomeOf (Level n s) = accepted (record { level = n; side = s })
 outcomeOf (Refused k) = refused k

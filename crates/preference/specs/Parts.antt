@@ -1,14 +1,15 @@
 -- What the engines know of a preference list: the level vector of a run and the greatest level of each of its parts
--- (document 01: "The engines know a wish only by its level and its M"). A preference gives a list of parts, here of
--- one.
+-- (document 01: "The engines know a wish only by its level and its M"). A preference gives a list of parts: its level,
+-- or the pair of levels of document 02, order 2.
 use Prim.Native.Nat.{ℕ, _-_}
-use mathlib.Core.List.{List, [], _∷_}
+use mathlib.Core.List.{List}
 use lib.IntN.{ℤ, pos}
 use lib.ListN.{getD, length}
 use Rattle.laws.specs.First.{firstRefusal}
 use Rattle.laws.specs.Lists.{joined, listWith}
-use Rattle.preference.specs.List.{preferenceAt, places}
-use Rattle.preference.specs.Level.{levelAt, maxAt, valueRefusal}
+use Rattle.constructor.specs.Side.{partsOf, topsOf}
+use Rattle.preference.specs.List.{preferenceAt, constructorAt, places}
+use Rattle.preference.specs.Level.{levelAt, sideAt, valueRefusal}
 use Rattle.preference.specs.declared.PreferenceList.{PreferenceList}
 use Rattle.preference.specs.declared.PartAt.{PartAt}
 
@@ -18,10 +19,11 @@ rowValue l row i = getD row (preferenceAt l i .column) (pos 0)
 
 -- the parts of a level under the preference at place i, and their greatest levels
 abbrev pub levelParts : PreferenceList → List ℤ → ℕ → List ℕ
-levelParts l row i = levelAt l i (rowValue l row i) ∷ []
+levelParts l row i =
+    partsOf (constructorAt l i) (levelAt l i (rowValue l row i)) (sideAt l i (rowValue l row i))
 
 abbrev pub maxParts : PreferenceList → ℕ → List ℕ
-maxParts l i = maxAt l i ∷ []
+maxParts l i = topsOf (constructorAt l i)
 
 -- the level vector of a run, preference by preference
 unfoldable pub levels : PreferenceList → List ℤ → List ℕ

@@ -1,6 +1,7 @@
 // The preference list (document 01: wish list): its types and its check. Its specs say too what `layers` and `levels`
 // answer.
 use constructor::Constructor;
+use constructor::Side;
 ghost use mathlib.Core.Path.{_≡_};
 ghost use Prim.Native.Nat.{_<_, _≤_, min};
 ghost use Rattle.limits.specs.Limits.{maxWishes, maxNamed};
@@ -36,9 +37,9 @@ pub const MAX_COUNT: u32 = limits::MAX_WISHES as u32;
 
 pub const MAX_NAMED_COUNT: u32 = limits::MAX_NAMED as u32;
 
-// The level of a value, or the number that the call is refused by.
+// The level of a value and its side, or the number that the call is refused by.
 pub enum LevelAnswer {
-    Level(u32),
+    Level(u32, Side),
     Refused(u8),
 }
 

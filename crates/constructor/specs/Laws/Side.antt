@@ -159,3 +159,32 @@ tops-single c e = rw e
 pub tops-pair : (c : Constructor) → isPair c ≡ true → topsOf c ≡ maxLevel c ∷ maxLevel c ∷ []
 unfolding topsOf
 tops-pair c e = rw e
+
+pub tops-few : (c : Constructor) → length (topsOf c) ≤ 2
+unfolding topsOf
+tops-few c = go (isPair c)
+  where
+    go : (b : Bool) → length (cond b (maxLevel c ∷ maxLevel c ∷ []) (maxLevel c ∷ [])) ≤ 2
+    go true = omega arith
+    go false = omega arith
+
+pub tops-some : (c : Constructor) → 1 ≤ length (topsOf c)
+unfolding topsOf
+tops-some c = go (isPair c)
+  where
+    go : (b : Bool) → 1 ≤ length (cond b (maxLevel c ∷ maxLevel c ∷ []) (maxLevel c ∷ []))
+    go true = omega arith
+    go false = omega arith
+
+-- M is the greatest level of each part
+pub tops-at : (c : Constructor) (h : ℕ) → h < length (topsOf c) → getD (topsOf c) h 0 ≡ maxLevel c
+unfolding topsOf
+tops-at c h l = go (isPair c) h l
+  where
+    go : (b : Bool) (h : ℕ) → h < length (cond b (maxLevel c ∷ maxLevel c ∷ []) (maxLevel c ∷ []))
+        → getD (cond b (maxLevel c ∷ maxLevel c ∷ []) (maxLevel c ∷ [])) h 0 ≡ maxLevel c
+    go true zero l = refl
+    go true (suc zero) l = refl
+    go true (suc (suc h)) l = absurd (omega arith)
+    go false zero l = refl
+    go false (suc h) l = absurd (omega arith)

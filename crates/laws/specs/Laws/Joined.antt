@@ -65,6 +65,17 @@ module _ (g : ℕ → List ℕ) (k : ℕ) where
   before-list zero h = omega arith
   before-list (suc j) h = ltb-false _ _ (h j (omega arith))
 
+  -- and its place there
+  pub list-within : (n : ℕ) → k < length (joined g n)
+      → k - length (joined g (listWith g n k)) < length (g (listWith g n k))
+  unfolding joined
+  list-within n h =
+      let i = listWith g n k in
+      let w = first-is (λ j. ltb k (length (joined g (suc j)))) n in
+      let low : length (joined g i) ≤ k = before-list i (w .before) in
+      let high : k < length (joined g (suc i)) = ltb-true _ _ (w .there (list-counted n h)) in
+      omega (arith, length-append (joined g i) (g i))
+
   -- element k of lists as long as these
   pub list-at : (f : ℕ → List ℕ) → ((i : ℕ) → length (f i) ≡ length (g i)) → (n : ℕ) → k < length (joined g n)
       → getD (joined f n) k 0 ≡ getD (f (listWith g n k)) (k - length (joined g (listWith g n k))) 0

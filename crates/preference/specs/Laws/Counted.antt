@@ -14,7 +14,8 @@ use Rattle.laws.specs.First.{firstAt}
 use Rattle.laws.specs.Laws.Joined.{joined-cong}
 use Rattle.laws.specs.Laws.First.{first-cong, any-cong, refusal-cong}
 use Rattle.arith.specs.Gap.{eqZ}
-use Rattle.constructor.specs.Level.{layeringOf, inside, maxLevel, numericLevel}
+use Rattle.constructor.specs.Level.{layeringOf, inside, numericLevel}
+use Rattle.constructor.specs.Side.{sideOf, topsOf}
 use Rattle.constructor.specs.Valid.{layerRefusal}
 use Rattle.constructor.specs.declared.Constructor.{Constructor}
 use Rattle.constructor.specs.declared.Layering.{Layering}
@@ -23,7 +24,7 @@ use Rattle.preference.specs.List.{preferenceAt, constructorAt, namedAt, 
 use Rattle.preference.specs.Same.{Same}
 use Rattle.preference.specs.Valid.{hasColumn, columnRefusal, preferenceRefusal, placeRefusal, namedRefusal}
 use Rattle.preference.specs.Valid.{listRefusal}
-use Rattle.preference.specs.Level.{isNamed, layerOf, levelUnder, levelAt, maxAt, valueRefusal}
+use Rattle.preference.specs.Level.{isNamed, layerOf, levelUnder, levelAt, sideAt, valueRefusal}
 use Rattle.preference.specs.Parts.{rowValue, levelParts, maxParts, levels, maxLevels, rowRefusal}
 use Rattle.preference.specs.declared.Preference.{Preference}
 use Rattle.preference.specs.declared.Named.{Named}
@@ -102,6 +103,10 @@ module _ (l m : PreferenceList) (s : Same l m) where
       under Numeric = ap (λ (c : Constructor). numericLevel c v) (constructor-same i h)
       under (Layers top others) = layer-same i v others
 
+  pub side-same : (i : ℕ) (v : ℤ) → i < l .count → sideAt l i v ≡ sideAt m i v
+  unfolding sideAt
+  side-same i v h = ap (λ (c : Constructor). sideOf c v) (constructor-same i h)
+
   pub value-same : (i : ℕ) (v : ℤ) → i < l .count → valueRefusal l i v ≡ valueRefusal m i v
   unfolding valueRefusal
   value-same i v h = ap (λ (c : Constructor). not (inside c v) gives 8) (constructor-same i h)
@@ -118,17 +123,21 @@ module _ (l m : PreferenceList) (s : Same l m) where
   row-value-same row i h = rw (s .places-same i h)
 
   pub levels-same : (row : List ℤ) → levels l row ≡ levels m row
-  unfolding levels
+  unfolding levels sideAt
   levels-same row =
       joined-cong (levelParts l row) (levelParts m row) (places l)
-      (λ i h. rw (row-value-same row i (counted-place i h), level-same i (rowValue m row i) (counted-place i h)))
+      (λ i h. rw (
+        row-value-same row i (counted-place i h),
+        level-same i (rowValue m row i) (counted-place i h),
+        constructor-same i (counted-place i h),
+      ))
       ∙ rw places-counted
 
   pub max-levels-same : maxLevels l ≡ maxLevels m
-  unfolding maxLevels maxAt
+  unfolding maxLevels
   max-levels-same =
-      joined-cong (maxParts l) (maxParts m) (places l)
-      (λ i h. ap (λ (c : Constructor). maxLevel c ∷ []) (constructor-same i (counted-place i h))) ∙ rw places-counted
+      joined-cong (maxParts l) (maxParts m) (places l) (λ i h. ap topsOf (constructor-same i (counted-place i h)))
+      ∙ rw places-counted
 
   pub row-refusal-same : (row : List ℤ) → rowRefusal l row ≡ rowRefusal m row
   unfolding rowRefusal

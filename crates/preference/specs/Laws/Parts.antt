@@ -1,23 +1,30 @@
 -- What the engines rest on: all level vectors of a list have one length, and under an accepted list the levels of a run
 -- that is not refused by 8 are at most the greatest levels, which are at most 65,535.
-use mathlib.Core.Path.{_≡_, refl, ap, _∙_}
-use Prim.Native.Nat.{ℕ, zero, suc, _-_, _<_, _≤_, min}
+use mathlib.Core.Path.{_≡_, refl, _∙_}
+use Prim.Native.Nat.{ℕ, zero, suc, _*_, _-_, _<_, _≤_, min}
 use native.Mathlib.Omega.{arith}
 use native.Mathlib.Nat.{min-le-right}
+use mathlib.Core.Bool.{Bool, true, false}
 use mathlib.Core.List.{List, [], _∷_, _++_}
 use lib.IntN.{ℤ}
-use lib.ListN.{getD, length, List·getD-eq-default}
+use lib.ListN.{getD, length, length-append, List·getD-eq-default}
 use Rattle.laws.specs.Laws.First.{refusal-zero}
-use Rattle.preference.specs.List.{places}
+use Rattle.constructor.specs.Level.{maxLevel}
+use Rattle.constructor.specs.Side.{isPair, pairOf, topsOf}
+use Rattle.constructor.specs.Laws.Side.{parts-long, parts-single, parts-pair, tops-single, tops-pair, tops-at}
+use Rattle.constructor.specs.Laws.Side.{tops-few, tops-some}
+use Rattle.constructor.specs.declared.Constructor.{Constructor}
+use Rattle.constructor.specs.declared.Side.{Side}
+use Rattle.constructor.specs.declared.Side.the-variants.{Below, Inside, Above}
+use Rattle.preference.specs.List.{constructorAt, places}
 use Rattle.preference.specs.Valid.{listRefusal}
-use Rattle.preference.specs.Level.{levelAt, maxAt, valueRefusal}
+use Rattle.preference.specs.Level.{levelAt, sideAt, maxAt, valueRefusal}
 use Rattle.preference.specs.Parts.{rowValue, levelParts, maxParts, levels, maxLevels, partOf, rowRefusal}
 use Rattle.laws.specs.Lists.{joined}
-use Rattle.laws.specs.Laws.Joined.{joined-length, list-counted, list-at, singles-length, singles-with}
+use Rattle.laws.specs.Laws.Joined.{joined-length, list-counted, list-within, list-at}
 use Rattle.preference.specs.Laws.Level.{level-most, max-small}
 use Rattle.preference.specs.Laws.Valid.{accepted, places-counted}
 use Rattle.preference.specs.declared.PreferenceList.{PreferenceList}
-use Rattle.preference.specs.declared.PartAt.{PartAt}
 
 -- each level is at most the greatest of its part, and there is one for each part
 abbrev pub Within : List ℕ → List ℕ → Type 0
@@ -72,7 +79,7 @@ joined-small b f (suc n) h =
 
 pub levels-length : (l : PreferenceList) (row : List ℤ) → length (levels l row) ≡ length (maxLevels l)
 unfolding levels maxLevels
-levels-length l row = joined-length (levelParts l row) (maxParts l) (places l) (λ i. refl)
+levels-length l row = joined-length (levelParts l row) (maxParts l) (places l) (λ i. parts-long _ _ _)
 
 -- where part k is found, among the parts
 module _ (l : PreferenceList) (k : ℕ) (h : k < length (maxLevels l)) where
@@ -80,44 +87,70 @@ module _ (l : PreferenceList) (k : ℕ) (h : k < length (maxLevels l)) where
   unfolding partOf maxLevels
   part-place = list-counted (maxParts l) k (places l) h
 
+  pub part-half : partOf l k .half < length (maxParts l (partOf l k .place))
+  unfolding partOf maxLevels
+  part-half = list-within (maxParts l) k (places l) h
+
   pub part-level : (row : List ℤ)
       → getD (levels l row) k 0 ≡ getD (levelParts l row (partOf l k .place)) (partOf l k .half) 0
   unfolding partOf levels maxLevels
-  part-level row = list-at (maxParts l) k (levelParts l row) (λ i. refl) (places l) h
+  part-level row = list-at (maxParts l) k (levelParts l row) (λ i. parts-long _ _ _) (places l) h
 
-  pub part-max : getD (maxLevels l) k 0 ≡ getD (maxParts l (partOf l k .place)) (partOf l k .half) 0
+  part-max : getD (maxLevels l) k 0 ≡ getD (maxParts l (partOf l k .place)) (partOf l k .half) 0
   unfolding partOf maxLevels
   part-max = list-at (maxParts l) k (maxParts l) (λ i. refl) (places l) h
+
+  -- it is the level under its preference, or one of a pair
+  pub level-single : (row : List ℤ) → isPair (constructorAt l (partOf l k .place)) ≡ false
+      → getD (levels l row) k 0 ≡ levelAt l (partOf l k .place) (rowValue l row (partOf l k .place))
+  level-single row e =
+      let i = partOf l k .place in
+      let z : partOf l k .half ≡ 0 = omega (arith, rw (tops-single (constructorAt l i) e) at part-half) in
+      part-level row ∙ rw (z, parts-single (constructorAt l i) _ (sideAt l i (rowValue l row i)) e)
+
+  pub level-pair : (row : List ℤ) → isPair (constructorAt l (partOf l k .place)) ≡ true
+      → let v = rowValue l row (partOf l k .place) in
+      getD (levels l row) k 0
+      ≡ getD (pairOf (levelAt l (partOf l k .place) v) (sideAt l (partOf l k .place) v)) (partOf l k .half) 0
+  level-pair row e =
+      part-level row ∙ rw (parts-pair (constructorAt l (partOf l k .place)) _ _ e)
+
+  -- its greatest level is the preference's
+  pub max-counted : getD (maxLevels l) k 0 ≡ maxAt l (partOf l k .place)
+  unfolding maxAt
+  max-counted = part-max ∙ tops-at (constructorAt l (partOf l k .place)) (partOf l k .half) part-half
 
 -- past the last part
 pub level-past : (l : PreferenceList) (row : List ℤ) (k : ℕ) → length (maxLevels l) ≤ k → getD (levels l row) k 0 ≡ 0
 level-past l row k h = List·getD-eq-default (levels l row) 0 (rw (levels-length l row) h)
 
--- ---- one part for each preference
+-- ---- one part or two for each preference
 
-pub parts-counted : (l : PreferenceList) → length (maxLevels l) ≡ places l
+parts-most : (l : PreferenceList) (n : ℕ) → length (joined (maxParts l) n) ≤ 2 * n
+unfolding joined
+parts-most l zero = omega arith
+parts-most l (suc n) =
+    omega (
+      arith,
+      length-append (joined (maxParts l) n) (maxParts l n),
+      parts-most l n,
+      tops-few (constructorAt l n),
+    )
+
+pub parts-few : (l : PreferenceList) → length (maxLevels l) ≤ 16
 unfolding maxLevels
-parts-counted l = singles-length (maxAt l) (places l)
+parts-few l = omega (arith, parts-most l (places l), min-le-right (l .count) 8)
 
-pub part-single : (l : PreferenceList) (k : ℕ)
-    → partOf l k ≡ record { place = min k (places l); half = k - min k (places l) }
-unfolding partOf
-part-single l k = rw (singles-with (maxAt l) (places l) k, singles-length (maxAt l) (min k (places l)))
-
-pub parts-few : (l : PreferenceList) → length (maxLevels l) ≤ 8
-parts-few l = omega (arith, parts-counted l, min-le-right (l .count) 8)
-
--- it is the level under its preference, and its greatest level is the preference's
-module _ (l : PreferenceList) (k : ℕ) (h : k < length (maxLevels l)) where
-  half-none : partOf l k .half ≡ 0
-  half-none = ap (λ (p : PartAt). p .half) (part-single l k) ∙ omega (arith, parts-counted l)
-
-  pub level-counted : (row : List ℤ)
-      → getD (levels l row) k 0 ≡ levelAt l (partOf l k .place) (rowValue l row (partOf l k .place))
-  level-counted row = part-level l k h row ∙ rw half-none
-
-  pub max-counted : getD (maxLevels l) k 0 ≡ maxAt l (partOf l k .place)
-  max-counted = part-max l k h ∙ rw half-none
+parts-least : (l : PreferenceList) (n : ℕ) → n ≤ length (joined (maxParts l) n)
+unfolding joined
+parts-least l zero = omega arith
+parts-least l (suc n) =
+    omega (
+      arith,
+      length-append (joined (maxParts l) n) (maxParts l n),
+      parts-least l n,
+      tops-some (constructorAt l n),
+    )
 
 -- ---- an accepted list
 
@@ -126,18 +159,38 @@ module _ (l : PreferenceList) (e : listRefusal l ≡ 0) where
   counted i h = omega (arith, places-counted l e)
 
   pub parts-some : 0 < length (maxLevels l)
-  parts-some = omega (arith, parts-counted l, places-counted l e, accepted l e .some)
+  unfolding maxLevels
+  parts-some = omega (arith, parts-least l (places l), places-counted l e, accepted l e .some)
 
   pub max-levels-small : AllAtMost 65535 (maxLevels l)
-  unfolding maxLevels
-  max-levels-small = joined-small 65535 (maxParts l) (places l) (λ i h. (max-small l i e (counted i h), tt))
+  unfolding maxLevels maxAt
+  max-levels-small =
+      joined-small 65535 (maxParts l) (places l)
+      (λ i h. tops-small (constructorAt l i) (isPair (constructorAt l i)) refl (max-small l i e (counted i h)))
+    where
+      tops-small : (c : Constructor) (b : Bool) → isPair c ≡ b → maxLevel c ≤ 65535 → AllAtMost 65535 (topsOf c)
+      tops-small c true p m = rw (tops-pair c p) (m, (m, tt))
+      tops-small c false p m = rw (tops-single c p) (m, tt)
 
   pub levels-within : (row : List ℤ) → rowRefusal l row ≡ 0 → Within (maxLevels l) (levels l row)
-  unfolding levels maxLevels rowRefusal
+  unfolding levels maxLevels rowRefusal maxAt
   levels-within row z =
       joined-within (maxParts l) (levelParts l row) (places l)
-      (λ i h. (
-        level-most l i e (counted i h) (rowValue l row i)
-            (refusal-zero (λ j. valueRefusal l j (rowValue l row j)) (places l) z i h),
-        tt,
-      ))
+      (λ i h. under i (isPair (constructorAt l i)) refl
+      (level-most l i e (counted i h) (rowValue l row i)
+      (refusal-zero (λ j. valueRefusal l j (rowValue l row j)) (places l) z i h)))
+    where
+      pair : (m n : ℕ) (s : Side) → n ≤ m → Within (m ∷ m ∷ []) (pairOf n s)
+      pair m n Below h = (omega arith, (h, tt))
+      pair m n Inside h = (omega arith, (omega arith, tt))
+      pair m n Above h = (h, (omega arith, tt))
+
+      under : (i : ℕ) (b : Bool) → isPair (constructorAt l i) ≡ b → levelAt l i (rowValue l row i) ≤ maxAt l i
+          → Within (maxParts l i) (levelParts l row i)
+      under i true p m =
+          let c = constructorAt l i in
+          rw (tops-pair c p, parts-pair c (levelAt l i (rowValue l row i)) (sideAt l i (rowValue l row i)) p)
+          (pair (maxLevel c) (levelAt l i (rowValue l row i)) (sideAt l i (rowValue l row i)) m)
+      under i false p m =
+          let c = constructorAt l i in
+          rw (tops-single c p, parts-single c (levelAt l i (rowValue l row i)) (sideAt l i (rowValue l row i)) p) (m, tt)
