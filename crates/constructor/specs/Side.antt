@@ -3,6 +3,7 @@ use Prim.Native.Nat.{ℕ, _-_}
 use mathlib.Core.Bool.{Bool, true, false, cond}
 use mathlib.Core.List.{List, [], _∷_}
 use lib.IntN.{ℤ}
+use lib.ListN.{getD}
 use lib.Signed.{leZ}
 use Rattle.constructor.specs.Level.{targetOf, maxLevel}
 use Rattle.constructor.specs.declared.Constructor.{Constructor}
@@ -42,3 +43,7 @@ partsOf c level side = cond (isPair c) (pairOf level side) (level ∷ [])
 -- "Each part of the pair runs 0 to M": the greatest level of each part
 unfoldable pub topsOf : Constructor → List ℕ
 topsOf c = cond (isPair c) (maxLevel c ∷ maxLevel c ∷ []) (maxLevel c ∷ [])
+
+-- part `half` of a pair, or the level where it is none
+abbrev pub partIn : Bool → ℕ → ℕ → Side → ℕ
+partIn pair half level side = cond pair (getD (pairOf level side) half 0) level

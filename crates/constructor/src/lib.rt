@@ -7,7 +7,7 @@ ghost use lib.ListN.{getD};
 ghost use Rattle.arith.specs.Gap.{gap};
 ghost use Rattle.arith.specs.Ceil.{ceilDiv};
 ghost use Rattle.constructor.specs.Level.{scaleOf, targetOf, layeringOf, numericLevel, maxLevel, inside};
-ghost use Rattle.constructor.specs.Side.{sideBy, sideOf, isPair, pairOf};
+ghost use Rattle.constructor.specs.Side.{sideBy, sideOf, isPair, pairOf, partIn};
 ghost use Rattle.constructor.specs.Valid.{sound, constructorRefusal, layerRefusal};
 
 // The least and the greatest number of 32 bits.
@@ -386,7 +386,7 @@ fn one_less(level: u64) -> u64
 }
 
 // Part `half` of a pair, 0 or 1: 1 is taken off the part of the other side.
-pub fn part_of(level: u64, side: Side, half: usize) -> u64
+fn pair_part(level: u64, side: Side, half: usize) -> u64
     ensures { λ r. ⌜ r ≡ getD (pairOf level side) half 0 ⌝ }
 {
     if 1 < half {
@@ -397,4 +397,24 @@ pub fn part_of(level: u64, side: Side, half: usize) -> u64
         Side::Inside => 0,
         Side::Above => if half == 0 { level } else { one_less(level) },
     }
+}
+
+// Part `half` of a pair, or the level where it is none.
+pub fn part_in(pair: bool, half: usize, level: u64, side: Side) -> u64
+    ensures { λ r. ⌜ r ≡ partIn pair half level side ⌝ }
+{
+    if pair {
+        pair_part(level, side, half)
+    } else {
+        level
+    }
+}
+
+// The same of v, by its distance from low..up.
+pub fn part_outside(low: i32, up: i32, step: u32, pair: bool, half: usize, v: i32) -> u64
+    ensures { λ r. ⌜ r ≡ partIn pair half (ceilDiv (gap low v + gap v up) step) (sideBy low up v) ⌝ }
+{
+    let level = level_outside(low, up, step, v);
+    let side = side_outside(low, up, v);
+    part_in(pair, half, level, side)
 }

@@ -1,20 +1,23 @@
-// What a preference list says of a value and of a run: the level of a value, and the level vector of a run.
+// What a preference list says of a value and of a run: the level and the side of a value, and the level vector of a run.
 use constructor::Constructor;
 use constructor::Layering;
+use constructor::Side;
 use preference::LevelAnswer;
 use preference::PartAt;
 use preference::Preference;
 use preference::PreferenceList;
 ghost use mathlib.Core.Path.{_≡_};
+ghost use Prim.Native.Nat.{_<_, _≤_};
 ghost use lib.IntN.{pos};
 ghost use lib.ListN.{getD, length};
 ghost use mathlib.Core.Bool.{not};
 ghost use Rattle.constructor.specs.Level.{inside};
+ghost use Rattle.limits.specs.Limits.{maxWishes};
 ghost use Rattle.laws.specs.Checks.{_gives_};
 ghost use Rattle.laws.specs.Outcome.{outcome};
 ghost use Rattle.preference.specs.List.{preferenceAt, places};
-ghost use Rattle.preference.specs.Level.{levelAt, valueRefusal, levelRefusal, outcomeOf};
-ghost use Rattle.preference.specs.Parts.{levels, maxLevels, partOf, rowRefusal};
+ghost use Rattle.preference.specs.Level.{levelAt, sideAt, toldAt, valueRefusal, levelRefusal, outcomeOf};
+ghost use Rattle.preference.specs.Parts.{levels, maxParts, maxLevels, partOf, rowRefusal};
 
 // ---- the level of a value
 
@@ -44,6 +47,14 @@ fn level_at(list: PreferenceList, i: usize, v: i32) -> u64
     }
 }
 
+// The side of v under the preference at place i.
+fn side_at(list: PreferenceList, i: usize, v: i32) -> Side
+    ensures { λ r. ⌜ r ≡ sideAt list i v ⌝ }
+{
+    let c = constructor_at(list, i);
+    constructor::side_of(c, v)
+}
+
 // 8 where v lies outside the bounds of the preference at place i.
 fn value_refusal(list: PreferenceList, i: usize, v: i32) -> u8
     ensures { λ r. ⌜ r ≡ valueRefusal list i v ⌝ }
@@ -52,9 +63,9 @@ fn value_refusal(list: PreferenceList, i: usize, v: i32) -> u8
     if constructor::is_inside(c, v) { 0 } else { 8 }
 }
 
-// The level of a value under the preference at a place.
+// The level of a value under the preference at a place, and its side.
 pub fn level(list: PreferenceList, place: u32, value: i32) -> LevelAnswer
-    ensures { λ r. ⌜ outcomeOf r ≡ outcome (levelRefusal list place value) (levelAt list place value) ⌝ }
+    ensures { λ r. ⌜ outcomeOf r ≡ outcome (levelRefusal list place value) (toldAt list place value) ⌝ }
 {
     let k = preference::refusal(list);
     if k != 0 {
@@ -69,7 +80,8 @@ pub fn level(list: PreferenceList, place: u32, value: i32) -> LevelAnswer
     if outside != 0 {
         return LevelAnswer::Refused(outside);
     }
-    LevelAnswer::Level(level_at(list, i, value) as u32)
+    let side = side_at(list, i, value);
+    LevelAnswer::Level(level_at(list, i, value) as u32, side)
 }
 
 // ---- the level vector of a run
@@ -96,25 +108,52 @@ fn run_value(p: Preference, row: &[i32]) -> i32
     value_in(row, arith::wide(column))
 }
 
+// The number of the parts that the preference at place i gives: one, or two.
+fn place_parts(list: PreferenceList, i: usize) -> usize
+    requires { ⌜ i < maxWishes ⌝ }
+    ensures { λ r. ⌜ (r ≡ length (maxParts list i)) × (r ≤ 2) ⌝ }
+{
+    let p = list.preferences[i];
+    let c = p.constructor;
+    if constructor::is_pair(c) { 2 } else { 1 }
+}
+
 // The number of the parts of every level vector.
 pub fn parts(list: PreferenceList) -> usize
     ensures { λ r. ⌜ r ≡ length (maxLevels list) ⌝ }
 {
-    counted_places(list)
+    let count = counted_places(list);
+    let mut total: usize = 0;
+    let mut i: usize = 0;
+    while i < count {
+        total += place_parts(list, i);
+        i += 1;
+    }
+    total
 }
 
-// The preference that part k of the level vectors belongs to. Each has one part.
+// The preference that part k of the level vectors belongs to, and which of its parts it is.
 pub fn part_at(list: PreferenceList, k: usize) -> PartAt
     ensures { λ r. ⌜ r ≡ partOf list k ⌝ }
 {
     let count = counted_places(list);
-    if count <= k {
-        return PartAt {
-            place: count,
-            half: k - count,
-        };
+    let mut before: usize = 0;
+    let mut i: usize = 0;
+    while i < count {
+        let with = before + place_parts(list, i);
+        if k < with {
+            return PartAt {
+                place: i,
+                half: k - before,
+            };
+        }
+        before = with;
+        i += 1;
     }
-    PartAt { place: k, half: 0 }
+    PartAt {
+        place: i,
+        half: k - before,
+    }
 }
 
 // Part k of the level vector of a run; 0 past the last.
@@ -127,7 +166,11 @@ pub fn part_level(list: PreferenceList, row: &[i32], k: usize) -> u64
     let at = part_at(list, k);
     let place = at.place;
     let p = list.preferences[place];
-    level_at(list, place, run_value(p, row))
+    let v = run_value(p, row);
+    let level = level_at(list, place, v);
+    let side = side_at(list, place, v);
+    let c = p.constructor;
+    constructor::part_in(constructor::is_pair(c), at.half, level, side)
 }
 
 // The greatest level of part k; 0 past the last.

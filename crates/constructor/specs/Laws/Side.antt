@@ -12,7 +12,7 @@ use Rattle.arith.specs.Ceil.{ceilDiv}
 use Rattle.arith.specs.Laws.Gap.{gap-none, gap-some, le-refl-Z}
 use Rattle.arith.specs.Laws.Ceil.{ceil-none}
 use Rattle.constructor.specs.Level.{distance, scaleOf, targetOf, layeringOf, numericLevel, maxLevel}
-use Rattle.constructor.specs.Side.{sideBy, sideOf, isPair, pairOf, partsOf, topsOf}
+use Rattle.constructor.specs.Side.{sideBy, sideOf, isPair, pairOf, partsOf, topsOf, partIn}
 use Rattle.constructor.specs.Laws.Papers.{level-best}
 use Rattle.constructor.specs.Laws.Target.{least-below, greatest-above, distance-outside}
 use Rattle.constructor.specs.declared.Constructor.{Constructor}
@@ -143,7 +143,6 @@ parts-long c level s = go (isPair c)
     go true = pair-long level s
     go false = refl
 
--- the level, where there is one part, and the pair, where there are two
 pub parts-single : (c : Constructor) (level : ℕ) (s : Side) → isPair c ≡ false → partsOf c level s ≡ level ∷ []
 unfolding partsOf
 parts-single c level s e = rw e
@@ -186,5 +185,17 @@ tops-at c h l = go (isPair c) h l
     go true zero l = refl
     go true (suc zero) l = refl
     go true (suc (suc h)) l = absurd (omega arith)
+    go false zero l = refl
+    go false (suc h) l = absurd (omega arith)
+
+-- each of the parts
+pub parts-at : (c : Constructor) (level : ℕ) (s : Side) (h : ℕ) → h < length (topsOf c)
+    → getD (partsOf c level s) h 0 ≡ partIn (isPair c) h level s
+unfolding partsOf topsOf
+parts-at c level s h l = go (isPair c) h l
+  where
+    go : (b : Bool) (h : ℕ) → h < length (cond b (maxLevel c ∷ maxLevel c ∷ []) (maxLevel c ∷ []))
+        → getD (cond b (pairOf level s) (level ∷ [])) h 0 ≡ partIn b h level s
+    go true h l = refl
     go false zero l = refl
     go false (suc h) l = absurd (omega arith)

@@ -2,6 +2,7 @@
 use mathlib.Core.Path.{_≡_, refl, ap, _∙_}
 use Prim.Native.Nat.{ℕ, zero, suc, _+_, _-_, _<_, _≤_, min}
 use native.Mathlib.Omega.{arith}
+use native.Mathlib.Numerals.{add-one}
 use mathlib.Core.Bool.{Bool, true, false, cond}
 use mathlib.Core.List.{List, [], _∷_, _++_}
 use native.Mathlib.Nat.{not-suc-le-zero, le-refl, eq-or-lt-of-le, le-of-suc-le-suc}
@@ -27,6 +28,10 @@ unfolding joined
 joined-length f g zero h = refl
 joined-length f g (suc n) h =
     rw (length-append (joined f n) (f n), length-append (joined g n) (g n), joined-length f g n h, h n)
+
+pub joined-longer : (f : ℕ → List ℕ) (n : ℕ) → length (joined f (n + 1)) ≡ length (joined f n) + length (f n)
+unfolding joined
+joined-longer f n = rw (add-one n) (length-append (joined f n) (f n))
 
 -- ---- which list has element k
 

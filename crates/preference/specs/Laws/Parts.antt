@@ -10,8 +10,8 @@ use lib.IntN.{ℤ}
 use lib.ListN.{getD, length, length-append, List·getD-eq-default}
 use Rattle.laws.specs.Laws.First.{refusal-zero}
 use Rattle.constructor.specs.Level.{maxLevel}
-use Rattle.constructor.specs.Side.{isPair, pairOf, topsOf}
-use Rattle.constructor.specs.Laws.Side.{parts-long, parts-single, parts-pair, tops-single, tops-pair, tops-at}
+use Rattle.constructor.specs.Side.{isPair, pairOf, topsOf, partIn}
+use Rattle.constructor.specs.Laws.Side.{parts-long, parts-single, parts-pair, parts-at, tops-single, tops-pair, tops-at}
 use Rattle.constructor.specs.Laws.Side.{tops-few, tops-some}
 use Rattle.constructor.specs.declared.Constructor.{Constructor}
 use Rattle.constructor.specs.declared.Side.{Side}
@@ -87,11 +87,11 @@ module _ (l : PreferenceList) (k : ℕ) (h : k < length (maxLevels l)) where
   unfolding partOf maxLevels
   part-place = list-counted (maxParts l) k (places l) h
 
-  pub part-half : partOf l k .half < length (maxParts l (partOf l k .place))
+  part-half : partOf l k .half < length (maxParts l (partOf l k .place))
   unfolding partOf maxLevels
   part-half = list-within (maxParts l) k (places l) h
 
-  pub part-level : (row : List ℤ)
+  part-level : (row : List ℤ)
       → getD (levels l row) k 0 ≡ getD (levelParts l row (partOf l k .place)) (partOf l k .half) 0
   unfolding partOf levels maxLevels
   part-level row = list-at (maxParts l) k (levelParts l row) (λ i. parts-long _ _ _) (places l) h
@@ -101,19 +101,12 @@ module _ (l : PreferenceList) (k : ℕ) (h : k < length (maxLevels l)) where
   part-max = list-at (maxParts l) k (maxParts l) (λ i. refl) (places l) h
 
   -- it is the level under its preference, or one of a pair
-  pub level-single : (row : List ℤ) → isPair (constructorAt l (partOf l k .place)) ≡ false
-      → getD (levels l row) k 0 ≡ levelAt l (partOf l k .place) (rowValue l row (partOf l k .place))
-  level-single row e =
-      let i = partOf l k .place in
-      let z : partOf l k .half ≡ 0 = omega (arith, rw (tops-single (constructorAt l i) e) at part-half) in
-      part-level row ∙ rw (z, parts-single (constructorAt l i) _ (sideAt l i (rowValue l row i)) e)
-
-  pub level-pair : (row : List ℤ) → isPair (constructorAt l (partOf l k .place)) ≡ true
-      → let v = rowValue l row (partOf l k .place) in
+  pub level-counted : (row : List ℤ)
+      → let i = partOf l k .place in
       getD (levels l row) k 0
-      ≡ getD (pairOf (levelAt l (partOf l k .place) v) (sideAt l (partOf l k .place) v)) (partOf l k .half) 0
-  level-pair row e =
-      part-level row ∙ rw (parts-pair (constructorAt l (partOf l k .place)) _ _ e)
+      ≡ partIn (isPair (constructorAt l i)) (partOf l k .half) (levelAt l i (rowValue l row i))
+      (sideAt l i (rowValue l row i))
+  level-counted row = part-level row ∙ parts-at (constructorAt l (partOf l k .place)) _ _ (partOf l k .half) part-half
 
   -- its greatest level is the preference's
   pub max-counted : getD (maxLevels l) k 0 ≡ maxAt l (partOf l k .place)

@@ -6,8 +6,8 @@ use lib.ListN.{getD}
 use Rattle.constructor.specs.Side.{pairOf}
 use Rattle.constructor.specs.Laws.Side.{pair-past, pair-inside}
 use Rattle.constructor.specs.declared.Side.{Side}
-use Rattle.constructor.proofs.part_of.Statement.{statement}
-use Rattle.constructor.proofs.part_of.Tie as tie
+use Rattle.constructor.proofs.pair_part.Statement.{statement}
+use Rattle.constructor.proofs.pair_part.Tie as tie
 
 -- part h of a pair, by its side
 at : (level : ℕ) (s t : Side) (h k : ℕ) → s ≡ t → h ≡ k → getD (pairOf level t) k 0 ≡ getD (pairOf level s) h 0
@@ -59,8 +59,8 @@ returns-6 c =
     let a = b .before .before .before .args in
     c .one-less2 .ensures ∙ at (a .level) _ _ (a .half) 1 (b .enum-told3 .given .1) (omega arith)
 
-pub part-of-spec : {M : Type 1} → statement M
-part-of-spec =
+pub pair-part-spec : {M : Type 1} → statement M
+pair-part-spec =
     tie.close
     (tie.spec
     returns
