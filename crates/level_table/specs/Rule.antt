@@ -1,12 +1,13 @@
 -- What decides a part of a level vector.
 use Prim.Native.Nat.{ℕ, _%_}
 use mathlib.Core.Path.{_≡_}
-use mathlib.Core.Bool.{cond}
+use mathlib.Core.Bool.{false, cond}
 use mathlib.Core.List.{List}
 use lib.Dec.{leb}
 use lib.IntN.{ℤ, pos}
 use lib.ListN.{getD, length}
 use Rattle.constructor.specs.Level.{scaleOf, targetOf, layeringOf}
+use Rattle.constructor.specs.Side.{isPair}
 use Rattle.constructor.specs.declared.Layering.the-variants.{Numeric}
 use Rattle.preference.specs.List.{preferenceAt}
 use Rattle.preference.specs.Level.{layerOf}
@@ -18,22 +19,26 @@ use Rattle.preference.specs.declared.Preference.{Preference}
 use Rattle.preference.specs.declared.PreferenceList.{PreferenceList}
 use Rattle.level_table.specs.declared.Rule.{Rule}
 
-abbrev pub ruleFor : Preference → Rule
-ruleFor p =
+-- of part `half` of a preference
+abbrev pub ruleFor : Preference → ℕ → Rule
+ruleFor p half =
     record {
       column = p .column;
       low = targetOf (p .constructor) .low;
       up = targetOf (p .constructor) .up;
       step = scaleOf (p .constructor) .step;
       layering = layeringOf (p .constructor);
+      pair = isPair (p .constructor);
+      half = half;
     }
 
 abbrev pub zeroRule : Rule
-zeroRule = record { column = 0; low = pos 0; up = pos 0; step = 0; layering = Numeric }
+zeroRule = record { column = 0; low = pos 0; up = pos 0; step = 0; layering = Numeric; pair = false; half = 0 }
 
 -- the rule of part k
 unfoldable pub ruleOf : PreferenceList → ℕ → Rule
-ruleOf l k = cond (leb (length (maxLevels l)) k) zeroRule (ruleFor (preferenceAt l (partOf l k .place)))
+ruleOf l k =
+    cond (leb (length (maxLevels l)) k) zeroRule (ruleFor (preferenceAt l (partOf l k .place)) (partOf l k .half))
 
 -- part k is a layer, and others the layer of other values
 pub record Layered (l : PreferenceList) (k others : ℕ) : Type 0 where

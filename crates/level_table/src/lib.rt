@@ -5,20 +5,26 @@
 use constructor::Layering;
 use preference::PreferenceList;
 ghost use mathlib.Core.Path.{_≡_};
+ghost use Prim.Native.Nat.{_*_, _≤_};
 ghost use lib.IntN.{pos};
-ghost use lib.ListN.{getD};
+ghost use lib.ListN.{getD, length};
+ghost use lib.Seq.{sets};
+ghost use Rattle.limits.specs.Limits.{columns};
 ghost use Rattle.log.specs.Log.{rowAt, rowCount};
-ghost use Rattle.level_table.specs.Table.{partAt, tableLength, withTable};
+ghost use Rattle.level_table.specs.Table.{partAt, isWide, planeOf, tableLength, withTable};
 ghost use Rattle.level_table.specs.Filled.{withPart, Room};
 ghost use Rattle.level_table.specs.Rule.{rowLayer, ruleOf, Layered};
 
-// What decides a part of a level vector: the values of a column, by their distance from low..up or by layers.
+// What decides a part of a level vector: the values of a column, by their distance from low..up or by layers; of a
+// pair, which of its parts it is.
 struct Rule {
     column: usize,
     low: i32,
     up: i32,
     step: u32,
     layering: Layering,
+    pair: bool,
+    half: usize,
 }
 
 // What decides part k of a level vector. Past the last part the step is 0, and so is every level.
@@ -32,6 +38,8 @@ fn rule_of(list: PreferenceList, k: usize) -> Rule
             up: 0,
             step: 0,
             layering: Layering::Numeric,
+            pair: false,
+            half: 0,
         };
     }
     let at = levels::part_at(list, k);
@@ -39,10 +47,10 @@ fn rule_of(list: PreferenceList, k: usize) -> Rule
     let preference = list.preferences[place];
     let column = preference.column;
     let form = preference.constructor;
+    let scale = constructor::scale_of(form);
     let target = constructor::target_of(form);
     let low = target.low;
     let up = target.up;
-    let scale = constructor::scale_of(form);
     let layering = constructor::layering_of(form);
     Rule {
         column: arith::wide(column),
@@ -50,6 +58,8 @@ fn rule_of(list: PreferenceList, k: usize) -> Rule
         up: up,
         step: scale.step,
         layering: layering,
+        pair: constructor::is_pair(form),
+        half: at.half,
     }
 }
 
@@ -74,11 +84,13 @@ fn fill_distances(list: PreferenceList, log: &[i32], k: usize, into: usize, tabl
     let low = rule.low;
     let up = rule.up;
     let step = rule.step;
+    let pair = rule.pair;
+    let half = rule.half;
     let n = log::row_count(log);
     let mut r: usize = 0;
     while r < n {
         let v = value_at(log, r, column);
-        let level = constructor::level_outside(low, up, step, v);
+        let level = constructor::part_outside(low, up, step, pair, half, v);
         table[limits::COLUMNS * r + into] = (level % limits::LEVEL_COUNT) as u16;
         r += 1;
     }
@@ -153,11 +165,37 @@ fn fill_part(list: PreferenceList, log: &[i32], k: usize, into: usize, table: &m
 
 // ---- the whole table
 
-// How many numbers the table of a list and a log takes.
+// How many numbers the table of a list and a log takes: a plane, or two where level vectors have more than eight
+// parts. The second begins behind the longest first one.
 pub fn table_length(list: PreferenceList, log: &[i32]) -> usize
     ensures { λ n. ⌜ n ≡ tableLength list (now (log .entry)) ⌝ }
 {
-    limits::COLUMNS * log::row_count(log)
+    let plane = limits::COLUMNS * log::row_count(log);
+    if is_wide(list) {
+        limits::MAX_VALUES + plane
+    } else {
+        plane
+    }
+}
+
+// Whether level vectors have more than eight parts.
+fn is_wide(list: PreferenceList) -> bool
+    ensures { λ b. ⌜ b ≡ isWide list ⌝ }
+{
+    limits::COLUMNS < levels::parts(list)
+}
+
+// Fills the front of a table with eight parts of the level vectors of a log, from part `first` on.
+fn fill_plane(list: PreferenceList, log: &[i32], first: usize, table: &mut [u16])
+    requires { ⌜ (first ≤ columns) × (columns * rowCount (now log) ≤ length (now table)) ⌝ }
+    ensures { λ _. ⌜
+        now (table .exit) ≡ sets (now (table .entry)) 0 (planeOf list (now (log .entry)) first) ⌝ }
+{
+    let mut k: usize = 0;
+    while k < limits::COLUMNS {
+        fill_part(list, log, first + k, k, table);
+        k += 1;
+    }
 }
 
 // Fills the front of a table with the levels of a log, part by part. A table that is too short is left as it is.
@@ -167,9 +205,8 @@ pub fn fill_table(list: PreferenceList, log: &[i32], table: &mut [u16])
     if table.len() < table_length(list, log) {
         return;
     }
-    let mut k: usize = 0;
-    while k < limits::COLUMNS {
-        fill_part(list, log, k, k, table);
-        k += 1;
+    fill_plane(list, log, 0, table);
+    if is_wide(list) {
+        fill_plane(list, log, limits::COLUMNS, &mut table[limits::MAX_VALUES..]);
     }
 }

@@ -17,14 +17,14 @@ use Rattle.level_table.proofs.fill_distances.Statement.{statement}
 use Rattle.level_table.proofs.fill_distances.Tie as tie
 
 abbrev Inv-loop : tie.InvT-loop
-Inv-loop log k into table₀ column low up step n r₀ table r =
+Inv-loop log k into table₀ column low up step pair half n r₀ table r =
     (r ≤ n)
     × (n ≡ length log / 8)
     × (length table ≡ length table₀)
-    × ((l : PreferenceList) → Ruled l k column (toZ w32 low) (toZ w32 up) step → table ≡ withPart (partAt l log k) into r table₀)
+    × ((l : PreferenceList) → Ruled l k column (toZ w32 low) (toZ w32 up) step pair half → table ≡ withPart (partAt l log k) into r table₀)
 
 abbrev μ-loop : tie.MeasureT-loop
-μ-loop log k into table₀ column low up step n r₀ table r = n - r
+μ-loop log k into table₀ column low up step pair half n r₀ table r = n - r
 
 rule-of-requires : tie.Need-rule-of-requires Inv-loop μ-loop
 rule-of-requires c κs = search needs
@@ -39,8 +39,8 @@ loop-holds c = (search needs, c .row-count .ensures, refl, λ l h. refl)
 value-at-requires : tie.Need-value-at-requires Inv-loop μ-loop
 value-at-requires c κs = search needs
 
-level-outside-requires : tie.Need-level-outside-requires Inv-loop μ-loop
-level-outside-requires c κs = search needs
+part-outside-requires : tie.Need-part-outside-requires Inv-loop μ-loop
+part-outside-requires c κs = search needs
 
 cast-table : tie.Need-cast-table Inv-loop μ-loop
 cast-table c = search needs
@@ -80,11 +80,11 @@ loop-again c =
     let row = rowAt (a .log .now) (d .loop .r) in (
       search needs,
       d .loop .inv .1,
-      length-set (d .loop .table) (8 * d .loop .r + a .into) (c .level-outside .result % 65536) ∙ d .loop .inv .2,
+      length-set (d .loop .table) (8 * d .loop .r + a .into) (c .part-outside .result % 65536) ∙ d .loop .inv .2,
       λ l h.
           let e =
-          rw (num (v .result) (v .ok)) at (c .level-outside .ensures)
-          ∙ ruled-level l (a .k) _ _ _ _ h row (v .result) (v .ensures) (v .ok) in
+          rw (num (v .result) (v .ok)) at (c .part-outside .ensures)
+          ∙ ruled-level l (a .k) _ _ _ _ _ _ h row (v .result) (v .ensures) (v .ok) in
           rw (e, d .loop .inv .3 l h) (with-part-more (partAt l (a .log .now) (a .k)) (a .into) (a .table .now) (d .loop .r)),
     )
 
@@ -99,12 +99,14 @@ returns c =
     let x = g .rule-of in
     let k = c .before .before .before .before .struct-told .given in
     let e : d .r ≡ length (a .log .now) / 8 = omega (arith, d .inv .1) in
-    let h : Ruled (a .list) (a .k) _ _ _ _ = record {
+    let h : Ruled (a .list) (a .k) _ _ _ _ _ _ = record {
       numeric = g .before .before .pre .0;
       column-is = ap (λ (r : Rule). r .column) (sym (x .ensures));
       low-is = ap (λ (r : Rule). r .low) (sym (x .ensures)) ∙ sym (num (x .result .low) (k .1 .0 .1));
       up-is = ap (λ (r : Rule). r .up) (sym (x .ensures)) ∙ sym (num (x .result .up) (k .1 .1 .0 .1));
       step-is = ap (λ (r : Rule). r .step) (sym (x .ensures));
+      pair-is = ap (λ (r : Rule). r .pair) (sym (x .ensures));
+      half-is = ap (λ (r : Rule). r .half) (sym (x .ensures));
     } in
     rw (← e) (d .inv .3 (a .list) h)
 
@@ -118,7 +120,7 @@ fill-distances-spec =
     row-count-requires
     loop-holds
     value-at-requires
-    level-outside-requires
+    part-outside-requires
     cast-table
     mul-table
     add-table

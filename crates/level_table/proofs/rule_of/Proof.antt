@@ -34,11 +34,11 @@ mul-preference c = omega (arith, inside c)
 element-copy-out-preference : tie.Need-element-copy-out-preference
 element-copy-out-preference c = omega (arith, inside c)
 
-target-of-requires : tie.Need-target-of-requires
-target-of-requires c κs = search needs
-
 scale-of-requires : tie.Need-scale-of-requires
 scale-of-requires c κs = search needs
+
+target-of-requires : tie.Need-target-of-requires
+target-of-requires c κs = search needs
 
 layering-of-requires : tie.Need-layering-of-requires
 layering-of-requires c κs = search needs
@@ -46,18 +46,23 @@ layering-of-requires c κs = search needs
 wide-requires : tie.Need-wide-requires
 wide-requires c κs = search needs
 
+is-pair-requires : tie.Need-is-pair-requires
+is-pair-requires c κs = search needs
+
 returns-2 : tie.Need-returns-2
 unfolding ruleOf
 returns-2 c =
-    let g = c .before .before .before .before .before in
-    let p = g .before .before in
-    let k = c .before .before .before .before .struct-told .given in
+    let w = c .before in
+    let g = w .before .before .before .before in
+    let p = g .before .before .before in
+    let k = w .before .before .before .struct-told .given in
     rw (
       lt-leb _ _ (counted p),
       ← p .part-at .ensures,
-      c .wide .ensures,
-      c .before .layering-of .ensures,
-      c .before .before .scale-of .ensures,
+      c .is-pair .ensures,
+      w .wide .ensures,
+      w .before .layering-of .ensures,
+      g .before .scale-of .ensures,
       num (g .target-of .result .low) (k .0 .1),
       num (g .target-of .result .up) (k .1 .0 .1),
       g .target-of .ensures,
@@ -72,8 +77,9 @@ rule-of-spec =
     part-at-requires
     mul-preference
     element-copy-out-preference
-    target-of-requires
     scale-of-requires
+    target-of-requires
     layering-of-requires
     wide-requires
+    is-pair-requires
     returns-2)
