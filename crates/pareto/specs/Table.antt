@@ -1,18 +1,36 @@
--- Two rows of a level table, which has eight numbers to a row.
-use Prim.Native.Nat.{ℕ, _+_, _*_, _/_}
-use mathlib.Core.Bool.{Bool, _&&_, cond}
+-- Two rows of a level table, which has eight numbers to a row, and behind the longest plane of them a second one.
+use Prim.Native.Nat.{ℕ, _+_, _-_, _*_, _/_}
+use mathlib.Core.Bool.{Bool, _&&_, _||_, cond}
 use mathlib.Core.List.{List}
 use lib.Dec.{ltb}
 use lib.ListN.{getD, length}
+use Rattle.limits.specs.Limits.{columns, maxValues}
 use Rattle.laws.specs.First.{anyBelow}
 
 -- place k from p on of a table is below that from q on
 abbrev pub lower : List ℕ → ℕ → ℕ → ℕ → Bool
 lower table p q k = ltb (getD table (p + k) 0) (getD table (q + k) 0)
 
+-- a table has a second plane: it is longer than the longest first one
+abbrev pub isDouble : List ℕ → Bool
+isDouble table = ltb maxValues (length table)
+
+-- how many rows a table of n numbers has, with all their levels
+abbrev pub rowsIn : ℕ → ℕ
+rowsIn n = cond (ltb maxValues n) ((n - maxValues) / columns) (n / columns)
+
+-- row a has a level below row b's in the first plane, or in the second
+abbrev pub lowerIn : List ℕ → ℕ → ℕ → Bool
+lowerIn table a b = anyBelow (lower table (columns * a) (columns * b)) columns
+
+abbrev pub lowerBehind : List ℕ → ℕ → ℕ → Bool
+lowerBehind table a b = anyBelow (lower table (maxValues + columns * a) (maxValues + columns * b)) columns
+
 -- row a of a table has a level below row b's; a row that the table has not has none
 unfoldable pub hasLower : List ℕ → ℕ → ℕ → Bool
-hasLower table a b = (ltb a (length table / 8) && ltb b (length table / 8)) && anyBelow (lower table (8 * a) (8 * b)) 8
+hasLower table a b =
+    (ltb a (rowsIn (length table)) && ltb b (rowsIn (length table))) &&
+    (lowerIn table a b || (isDouble table && lowerBehind table a b))
 
 -- how two rows stand: equal at every level, or one of them betters the other, or each has a level below the other's
 abbrev pub equal : ℕ

@@ -5,12 +5,14 @@ ghost use mathlib.Core.Path.{_≡_};
 ghost use Prim.Native.Nat.{_+_, _*_, _≤_};
 ghost use lib.ListN.{length, set};
 ghost use lib.Seq.{sets};
+ghost use mathlib.Core.Bool.{_||_};
+ghost use Rattle.limits.specs.Limits.{columns, maxValues};
 ghost use Rattle.laws.specs.First.{anyBelow};
 ghost use Rattle.log.specs.Log.{rowAt, logOf};
 ghost use Rattle.preference.specs.Parts.{rowRefusal};
 ghost use Rattle.pareto.specs.Best.{competes, competing};
 ghost use Rattle.pareto.specs.Checked.{rowsRefusal, checkedRefusal};
-ghost use Rattle.pareto.specs.Table.{lower, hasLower, relation, compared};
+ghost use Rattle.pareto.specs.Table.{lower, rowsIn, lowerIn, lowerBehind, hasLower, relation, compared};
 
 // 8 or 0 of one row.
 fn row_at_refusal(list: PreferenceList, log: &[i32], r: usize) -> u8
@@ -124,16 +126,16 @@ pub struct Lower {
 
 // Two rows of a table that begin at p and q. One look at each level tells both ways.
 fn rows_compared(table: &[u16], p: usize, q: usize) -> Lower
-    requires { ⌜ (p + 8 ≤ length (now table)) × (q + 8 ≤ length (now table)) ⌝ }
+    requires { ⌜ (p + columns ≤ length (now table)) × (q + columns ≤ length (now table)) ⌝ }
     ensures { λ r. ⌜
-        (r .first ≡ anyBelow (lower (now (table .entry)) p q) 8)
-        × (r .second ≡ anyBelow (lower (now (table .entry)) q p) 8)
+        (r .first ≡ anyBelow (lower (now (table .entry)) p q) columns)
+        × (r .second ≡ anyBelow (lower (now (table .entry)) q p) columns)
         × (r .relation ≡ relation (r .first) (r .second)) ⌝ }
 {
     let mut first = false;
     let mut second = false;
     let mut k: usize = 0;
-    while k < 8 {
+    while k < limits::COLUMNS {
         let x = table[p + k];
         let y = table[q + k];
         first = first | (x < y);
@@ -147,6 +149,49 @@ fn rows_compared(table: &[u16], p: usize, q: usize) -> Lower
     }
 }
 
+// The same of what two planes tell.
+fn either(p: Lower, q: Lower) -> Lower
+    ensures { λ r. ⌜
+        (r .first ≡ p .first || q .first) × (r .second ≡ p .second || q .second)
+        × (r .relation ≡ relation (r .first) (r .second)) ⌝ }
+{
+    let first = p.first | q.first;
+    let second = p.second | q.second;
+    Lower {
+        first,
+        second,
+        relation: relation_of(first, second),
+    }
+}
+
+// How many rows a table of so many numbers has.
+fn rows_in(count: usize) -> usize
+    ensures { λ n. ⌜ n ≡ rowsIn count ⌝ }
+{
+    if limits::MAX_VALUES < count {
+        (count - limits::MAX_VALUES) / limits::COLUMNS
+    } else {
+        count / limits::COLUMNS
+    }
+}
+
+// Two rows of a table of two planes.
+fn double_compared(table: &[u16], a: usize, b: usize) -> Lower
+    requires { ⌜
+        (maxValues + (columns * a + columns) ≤ length (now table))
+        × (maxValues + (columns * b + columns) ≤ length (now table)) ⌝ }
+    ensures { λ r. ⌜
+        (r .first ≡ lowerIn (now (table .entry)) a b || lowerBehind (now (table .entry)) a b)
+        × (r .second ≡ lowerIn (now (table .entry)) b a || lowerBehind (now (table .entry)) b a)
+        × (r .relation ≡ relation (r .first) (r .second)) ⌝ }
+{
+    let p = limits::COLUMNS * a;
+    let q = limits::COLUMNS * b;
+    let near = rows_compared(table, p, q);
+    let far = rows_compared(table, limits::MAX_VALUES + p, limits::MAX_VALUES + q);
+    either(near, far)
+}
+
 // Which of rows a and b of a table has a level below the other's.
 pub fn lower_levels(table: &[u16], a: usize, b: usize) -> Lower
     ensures { λ r. ⌜
@@ -154,7 +199,7 @@ pub fn lower_levels(table: &[u16], a: usize, b: usize) -> Lower
         × (r .second ≡ hasLower (now (table .entry)) b a)
         × (r .relation ≡ compared (now (table .entry)) a b) ⌝ }
 {
-    let rows = table.len() / 8;
+    let rows = rows_in(table.len());
     if rows <= a {
         return Lower {
             first: false,
@@ -169,7 +214,10 @@ pub fn lower_levels(table: &[u16], a: usize, b: usize) -> Lower
             relation: EQUAL,
         };
     }
-    rows_compared(table, 8 * a, 8 * b)
+    if limits::MAX_VALUES < table.len() {
+        return double_compared(table, a, b);
+    }
+    rows_compared(table, limits::COLUMNS * a, limits::COLUMNS * b)
 }
 
 // How rows a and b of a table stand; a row that the table has not has no level below another's.

@@ -9,7 +9,7 @@ use borrow.Author.Tests.{lt-ltb, le-ltb, ltb-true, ltb-false, eqb-true, ne-eqb, 
 use lib.Dec.{ltb, eqb}
 use borrow.Author.Count.{below-more}
 use Rattle.laws.specs.First.{firstAt, anyBelow, firstRefusal, isRefusal}
-use Rattle.laws.specs.Laws.Bools.{false-true}
+use Rattle.laws.specs.Laws.Bools.{false-true, or-none, or-assoc}
 
 -- nothing below k, and not at k: nothing below k + 1
 pub search-on : (p : ℕ → Bool) (k : ℕ) → firstAt p k ≡ k → p k ≡ false → firstAt p (k + 1) ≡ k + 1
@@ -93,6 +93,18 @@ one-more p k f h false e false = le-ltb (suc k) (suc k) (omega arith)
 pub any-more : (p : ℕ → Bool) (k : ℕ) → anyBelow p (k + 1) ≡ anyBelow p k || p k
 unfolding anyBelow firstAt
 any-more p k = rw (add-one k) (one-more p k (firstAt p k) (first-is p k .within) (ltb (firstAt p k) k) refl (p k))
+
+any-zero : (p : ℕ → Bool) → anyBelow p 0 ≡ false
+unfolding anyBelow firstAt
+any-zero p = refl
+
+-- a search in two stretches
+pub any-append : (p : ℕ → Bool) (m n : ℕ) → anyBelow p (m + n) ≡ anyBelow p m || anyBelow (λ k. p (m + k)) n
+any-append p m zero = rw (add-zero m, any-zero (λ k. p (m + k))) (sym (or-none (anyBelow p m)))
+any-append p m (suc n) =
+    let e : m + suc n ≡ m + n + 1 = omega arith in
+    rw (e, any-more p (m + n), any-append p m n, ← add-one n, any-more (λ k. p (m + k)) n)
+    (or-assoc (anyBelow p m) (anyBelow (λ k. p (m + k)) n) (p (m + n)))
 
 -- a search that found one shows where, and one that holds is found
 pub any-found : (p : ℕ → Bool) (n : ℕ) → anyBelow p n ≡ true → (k : ℕ) × (k < n) × (p k ≡ true)
