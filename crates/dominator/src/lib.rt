@@ -3,6 +3,7 @@ use preference::PreferenceList;
 ghost use mathlib.Core.Path.{_≡_};
 ghost use Rattle.laws.specs.Lists.{anyOf};
 ghost use Rattle.log.specs.Log.{logOf};
+ghost use Rattle.level_table.specs.Table.{tableOf};
 ghost use Rattle.dominator.specs.First.{beats, bestBeats, firstOf, firstDominator, RowAsked};
 ghost use Rattle.dominator.specs.Engine.{Answered};
 
@@ -51,18 +52,32 @@ fn first_dominator(table: &[u16], rows: &[usize], row: usize, none: usize) -> us
     none
 }
 
-// The search among the competing rows of what the checks accepted.
+// The search among the competing rows of what the checks accepted, in its level table.
+fn first_in_table(list: PreferenceList, table: &[u16], log: &[i32], row: usize) -> usize
+    requires { ⌜ RowAsked list (logOf (now log)) row ⌝ }
+    requires { ⌜ now table ≡ tableOf list (now log) ⌝ }
+    ensures { λ s. ⌜ s ≡ firstDominator list (logOf (now (log .entry))) row ⌝ }
+{
+    let mut rows = [0usize; limits::MAX_RUNS];
+    let count = pareto::competing_rows(log, &mut rows);
+    let n = log::row_count(log);
+    first_dominator(table, &rows[..count], row, n)
+}
+
+// The search in a log. Room for a second plane is made only where there is one.
 fn first_of_log(list: PreferenceList, log: &[i32], row: usize) -> usize
     requires { ⌜ RowAsked list (logOf (now log)) row ⌝ }
     ensures { λ s. ⌜ s ≡ firstDominator list (logOf (now (log .entry))) row ⌝ }
 {
-    let mut table = [0u16; limits::MAX_VALUES];
     let length = level_table::table_length(list, log);
-    level_table::fill_table(list, log, &mut table[..length]);
-    let mut rows = [0usize; limits::MAX_RUNS];
-    let count = pareto::competing_rows(log, &mut rows);
-    let n = log::row_count(log);
-    first_dominator(&table[..length], &rows[..count], row, n)
+    if length <= limits::MAX_VALUES {
+        let mut plane = [0u16; limits::MAX_VALUES];
+        level_table::fill_table(list, log, &mut plane[..length]);
+        return first_in_table(list, &plane[..length], log, row);
+    }
+    let mut planes = [0u16; limits::MAX_TABLE];
+    level_table::fill_table(list, log, &mut planes[..length]);
+    first_in_table(list, &planes[..length], log, row)
 }
 
 // Answers with a row of the shortlist that betters the asked one.

@@ -3,8 +3,9 @@ use Prim.Native.Nat.{ℕ, zero, suc, _+_, _*_, _<_, _≤_, min}
 use mathlib.Core.Bool.{cond}
 use mathlib.Core.List.{List, [], _∷_}
 use mathlib.Core.Path.{_≡_}
-use lib.ListN.{getD, length}
-use Rattle.limits.specs.Limits.{columns, maxRuns, maxNodes}
+use lib.Dec.{ltb}
+use lib.ListN.{getD, length, take, drop}
+use Rattle.limits.specs.Limits.{columns, maxRuns, maxValues, maxNodes}
 use Rattle.laws.specs.Lists.{joined}
 use Rattle.log.specs.Log.{Log, rowCount}
 use Rattle.preference.specs.Valid.{listRefusal}
@@ -45,16 +46,28 @@ unfoldable pub weighed : List ℕ → List ℕ → ℕ → ℕ → ℕ
 weighed weights table at zero = 0
 weighed weights table at (suc n) = weighed weights table at n + getD table (at + n) 0 * getD weights n 0
 
--- the number of the node of row r of a table
-abbrev pub nodeBy : List ℕ → List ℕ → ℕ → ℕ
-nodeBy weights table r = weighed weights table (columns * r) (length weights)
+-- as many levels as there are weights
+abbrev pub nodeAt : List ℕ → List ℕ → ℕ → ℕ
+nodeAt weights table at = weighed weights table at (length weights)
+
+-- the number of the node of row r of a table: its levels in the first plane, and past eight those in the second
+unfoldable pub nodeBy : List ℕ → List ℕ → ℕ → ℕ
+nodeBy weights table r =
+    cond (ltb columns (length weights))
+    (nodeAt (take columns weights) table (columns * r) + nodeAt (drop columns weights) table (maxValues + columns * r))
+    (nodeAt weights table (columns * r))
 
 -- the number of the node that row r of a table holds; a row that does not compete holds none
 unfoldable pub idBy : List ℕ → List ℕ → Log → ℕ → ℕ
 idBy weights table log r = cond (competes log r) (nodeBy weights table r) noNode
 
+-- row r stands in a table, with a level for each weight
+pub record Placed (weights table : List ℕ) (r : ℕ) : Type 0 where
+  pub near : columns * r + min (length weights) columns ≤ length table
+  pub far : columns < length weights → maxValues + columns * r + length (drop columns weights) ≤ length table
+
 -- n rows stand in a table, and the numbers of their nodes are small
 pub record Tabled (weights table : List ℕ) (n : ℕ) : Type 0 where
   pub few : n ≤ maxRuns
-  pub inside : (r : ℕ) → r < n → columns * r + length weights ≤ length table
+  pub inside : (r : ℕ) → r < n → Placed weights table r
   pub small : (r : ℕ) → r < n → nodeBy weights table r < maxNodes

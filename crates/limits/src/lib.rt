@@ -9,6 +9,9 @@ pub const MAX_RUNS: usize = 1024;
 // How many numbers the longest log has.
 pub const MAX_VALUES: usize = COLUMNS * MAX_RUNS;
 
+// How many numbers the longest level table has: two planes, each as long as the longest log.
+pub const MAX_TABLE: usize = 2 * MAX_VALUES;
+
 pub const MAX_WISHES: usize = 8;
 
 pub const MAX_NAMED: usize = 64;

@@ -27,4 +27,4 @@ module _ (l : PreferenceList) (log : Log) (marks work w : ℕ) (g : Runnable l l
   -- the machine on the level table is the machine on the log
   pub filled-machine : (t rows : List ℕ) (n : ℕ) → t ≡ tableOf l (log .values) → rows ≡ competing log → n ≡ rowCount (log .values)
       → machine (tableDominates t) w rows n ≡ machineOf l log w
-  filled-machine t rows n e r m = rw (e, r, m) (machine-table l log (g .list) (g .values) w)
+  filled-machine t rows n e r m = rw (e, r, m) (machine-table l log (g .list) (g .values) (g .few) w)

@@ -103,7 +103,7 @@ module _ (p c : ℕ → Bool) where
 module _ (l : PreferenceList) (log : Log) (row : ℕ) (a : RowAsked l log row) where
   table-beats : (s r : ℕ) → s < rowCount (log .values) → r < rowCount (log .values)
       → beats (tableOf l (log .values)) s r ≡ rowDominates l log s r
-  table-beats = compared-dominates l log (a .list) (a .values)
+  table-beats = compared-dominates l log (a .list) (a .values) (a .few)
 
   regroup : (c b d : Bool) → (c && (b && d)) ≡ ((c && d) && b)
   regroup true true d = go d

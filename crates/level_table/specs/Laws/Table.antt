@@ -8,7 +8,7 @@ use mathlib.Core.List.{List, _++_}
 use lib.IntN.{ℤ}
 use lib.ListN.{length, getD, take, drop, replicate, length-append, length-replicate}
 use lib.Seq.{sets, length-sets, take-at, length-take-le}
-use borrow.Author.Tests.{le-ltb, ltb-false}
+use borrow.Author.Tests.{le-ltb, ltb-true, ltb-false}
 use Rattle.laws.specs.Laws.Joined.{singles-at, singles-length}
 use Rattle.laws.specs.Laws.Stores.{stored-at, stored-before, take-replicate}
 use Rattle.log.specs.Log.{rowCount, rowAt}
@@ -29,10 +29,14 @@ pub table-wide : (l : PreferenceList) (log : List ℤ) → isWide l ≡ true →
 unfolding tableLength
 table-wide l log e = rw e
 
--- at most eight parts where there is one plane
+-- at most eight parts where there is one plane, and more where there are two
 pub narrow-few : (l : PreferenceList) → isWide l ≡ false → length (maxLevels l) ≤ 8
 unfolding isWide
 narrow-few l e = ltb-false 8 (length (maxLevels l)) e
+
+pub wide-more : (l : PreferenceList) → isWide l ≡ true → 8 < length (maxLevels l)
+unfolding isWide
+wide-more l e = ltb-true 8 (length (maxLevels l)) e
 
 plane-long : (l : PreferenceList) (log : List ℤ) (first : ℕ) → length (planeOf l log first) ≡ 8 * rowCount log
 unfolding planeOf

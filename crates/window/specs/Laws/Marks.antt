@@ -73,11 +73,11 @@ module _ (l : PreferenceList) (log : Log) where
       let d : length (competing log) - 1 ≤ 1024 = omega arith in
       omega (arith, count-bound (rowDominates l log) w (competing log) (rowCount (log .values)) pos, mul-le-mul n d)
 
-  module _ (e : listRefusal l ≡ 0) (f : rowsRefusal l (log .values) ≡ 0) where
+  module _ (e : listRefusal l ≡ 0) (f : rowsRefusal l (log .values) ≡ 0) (few : rowCount (log .values) ≤ 1024) where
     table-dominates : (a b : ℕ) → a < rowCount (log .values) → b < rowCount (log .values)
         → tableDominates (tableOf l (log .values)) a b ≡ rowDominates l log a b
     unfolding tableDominates
-    table-dominates a b h j = compared-dominates l log e f a b h j
+    table-dominates a b h j = compared-dominates l log e f few a b h j
 
     pub machine-table : (w : ℕ)
         → machine (tableDominates (tableOf l (log .values))) w (competing log) (rowCount (log .values))
