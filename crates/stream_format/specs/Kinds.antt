@@ -1,4 +1,4 @@
--- Document 01, "Runs and records": the table of kinds.
+-- Document 01, "Runs and records": the table of kinds, and the kind that document 02 adds.
 use Prim.Native.Nat.{ℕ}
 use mathlib.Core.List.{List, [], _∷_}
 use lib.ListN.{getD}
@@ -40,6 +40,8 @@ kinds =
     kind NamedRecord 5 ∷
     -- 07 RUN
     kind RunRecord runBody ∷
+    -- 08, document 02, order 2: "Kind 08, refused by 2 until now, has BETWEEN's body."
+    kind PreferenceRecord 21 ∷
     []
 
 unfoldable pub kindOf : ℕ → Kind

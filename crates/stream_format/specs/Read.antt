@@ -13,6 +13,7 @@ use Rattle.constructor.specs.Level.{layeringOf}
 use Rattle.constructor.specs.Valid.{layerRefusal}
 use Rattle.constructor.specs.declared.Constructor.{Constructor}
 use Rattle.constructor.specs.declared.Constructor.the-variants.{Lowest, Highest, Around, Between, Layered}
+use Rattle.constructor.specs.declared.Constructor.the-variants.{BetweenTrivial}
 use Rattle.constructor.specs.declared.Layering.{Layering}
 use Rattle.constructor.specs.declared.Layering.the-variants.{Numeric, Layers}
 use Rattle.preference.specs.List.{zeroPreference, zeroNamed, constructorAt}
@@ -27,13 +28,15 @@ use Rattle.stream_format.specs.declared.ReadAnswer.{ReadAnswer}
 
 -- ---- the figures of the record that bs begins with
 
+-- the form of kind k; document 02, order 2: "Kind 08, refused by 2 until now, has BETWEEN's body."
 unfoldable pub constructorOf : ℕ → List ℕ → Constructor
 constructorOf k bs =
     cond (eqb k 1) (Lowest (intAt bs 2) (intAt bs 6) (wordAt bs 10))
     (cond (eqb k 2) (Highest (intAt bs 2) (intAt bs 6) (wordAt bs 10))
     (cond (eqb k 3) (Around (intAt bs 2) (intAt bs 6) (wordAt bs 10) (intAt bs 14))
     (cond (eqb k 4) (Between (intAt bs 2) (intAt bs 6) (wordAt bs 10) (intAt bs 14) (intAt bs 18))
-    (Layered (getD bs 2 0) (getD bs 3 0)))))
+    (cond (eqb k 8) (BetweenTrivial (intAt bs 2) (intAt bs 6) (wordAt bs 10) (intAt bs 14) (intAt bs 18))
+    (Layered (getD bs 2 0) (getD bs 3 0))))))
 
 abbrev pub preferenceOf : List ℕ → Preference
 preferenceOf bs = record { column = getD bs 1 0; constructor = constructorOf (kindByte bs) bs }

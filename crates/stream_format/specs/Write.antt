@@ -13,6 +13,7 @@ use Rattle.laws.specs.Outcome.{Outcome, accepted, refused}
 use Rattle.log.specs.Log.{rowCount, rowAt, logRefusal}
 use Rattle.constructor.specs.declared.Constructor.{Constructor}
 use Rattle.constructor.specs.declared.Constructor.the-variants.{Lowest, Highest, Around, Between, Layered}
+use Rattle.constructor.specs.declared.Constructor.the-variants.{BetweenTrivial}
 use Rattle.preference.specs.List.{preferenceAt, namedAt}
 use Rattle.preference.specs.Valid.{listRefusal}
 use Rattle.preference.specs.declared.Preference.{Preference}
@@ -29,14 +30,19 @@ kindFor (Highest lo hi step) = 2
 kindFor (Around lo hi step z) = 3
 kindFor (Between lo hi step low up) = 4
 kindFor (Layered top others) = 5
+kindFor (BetweenTrivial lo hi step low up) = 8
+
+-- the figures of BETWEEN; document 02, order 2: "Kind 08, refused by 2 until now, has BETWEEN's body."
+abbrev pub betweenBytes : ℤ → ℤ → ℕ → ℤ → ℤ → List ℕ
+betweenBytes lo hi step low up = intBytes lo ++ intBytes hi ++ wordBytes step ++ intBytes low ++ intBytes up
 
 abbrev pub constructorBytes : Constructor → List ℕ
 constructorBytes (Lowest lo hi step) = intBytes lo ++ intBytes hi ++ wordBytes step
 constructorBytes (Highest lo hi step) = intBytes lo ++ intBytes hi ++ wordBytes step
 constructorBytes (Around lo hi step z) = intBytes lo ++ intBytes hi ++ wordBytes step ++ intBytes z
-constructorBytes (Between lo hi step low up) =
-    intBytes lo ++ intBytes hi ++ wordBytes step ++ intBytes low ++ intBytes up
+constructorBytes (Between lo hi step low up) = betweenBytes lo hi step low up
 constructorBytes (Layered top others) = top ∷ others ∷ []
+constructorBytes (BetweenTrivial lo hi step low up) = betweenBytes lo hi step low up
 
 unfoldable pub preferenceBytes : Preference → List ℕ
 preferenceBytes p = kindFor (p .constructor) ∷ p .column ∷ constructorBytes (p .constructor)

@@ -28,6 +28,6 @@ unfolding kindOf kinds
 none-at-zero zero h = refl
 none-at-zero (suc k) h = absurd (omega arith)
 
-pub none-past : (k : ℕ) → 8 ≤ k → kindOf k ≡ kind Unknown 0
+pub none-past : (k : ℕ) → 9 ≤ k → kindOf k ≡ kind Unknown 0
 unfolding kindOf kinds
 none-past k h = List·getD-eq-default kinds (kind Unknown 0) h

@@ -47,6 +47,13 @@ fn constructor_of(k: u8, t: &[u8]) -> Constructor
             low,
             up,
         },
+        8 => Constructor::BetweenTrivial {
+            lo,
+            hi,
+            step,
+            low,
+            up,
+        },
         _ => Constructor::Layered {
             top: word::get_u8(t, 2),
             others: word::get_u8(t, 3),

@@ -11,14 +11,14 @@ pub fn class_of(t: &[u8]) -> Class
 {
     let k = word::get_u8(t, 0);
     match k {
-        1 | 2 | 3 | 4 | 5 => Class::PreferenceRecord,
+        1 | 2 | 3 | 4 | 5 | 8 => Class::PreferenceRecord,
         6 => Class::NamedRecord,
         7 => Class::RunRecord,
         _ => Class::Unknown,
     }
 }
 
-// The bytes of the longer bodies.
+// The bytes of the longer bodies; kind 08 has BETWEEN's.
 const AROUND_BODY: usize = 17;
 
 const BETWEEN_BODY: usize = 21;
@@ -33,7 +33,7 @@ pub fn body_of(t: &[u8]) -> usize
     match k {
         1 | 2 => 13,
         3 => AROUND_BODY,
-        4 => BETWEEN_BODY,
+        4 | 8 => BETWEEN_BODY,
         5 => 3,
         6 => 5,
         7 => RUN_BODY,

@@ -13,7 +13,7 @@ ghost use Rattle.stream_format.specs.Kinds.{wishRecord, namedRecord};
 ghost use Rattle.word.specs.Word.{wordBytes, intBytes};
 ghost use Rattle.word.specs.Puts.{Puts};
 ghost use Rattle.stream_format.specs.Write.{kindFor, constructorBytes, preferenceBytes, namedBytes, intsBytes};
-ghost use Rattle.stream_format.specs.Write.{runBytes};
+ghost use Rattle.stream_format.specs.Write.{betweenBytes, runBytes};
 
 fn put_range(out: &mut [u8], at: usize, lo: i32, hi: i32, step: u32) -> usize
     requires { ⌜ at + 12 < usizeEnd ⌝ }
@@ -23,6 +23,17 @@ fn put_range(out: &mut [u8], at: usize, lo: i32, hi: i32, step: u32) -> usize
     word::put_i32(out, at + 4, hi);
     word::put_u32(out, at + 8, step);
     at + 12
+}
+
+// The figures of BETWEEN, which kind 08 has too.
+fn put_between(out: &mut [u8], at: usize, lo: i32, hi: i32, step: u32, low: i32, up: i32) -> usize
+    requires { ⌜ at + wishRecord < usizeEnd ⌝ }
+    ensures { λ r. ⌜ Puts (now (out .entry)) (now (out .exit)) at r (betweenBytes lo hi step low up) ⌝ }
+{
+    let next = put_range(out, at, lo, hi, step);
+    word::put_i32(out, next, low);
+    word::put_i32(out, next + 4, up);
+    next + 8
 }
 
 fn put_constructor(out: &mut [u8], at: usize, c: Constructor) -> usize
@@ -43,17 +54,19 @@ fn put_constructor(out: &mut [u8], at: usize, c: Constructor) -> usize
             step,
             low,
             up,
-        } => {
-            let next = put_range(out, at, lo, hi, step);
-            word::put_i32(out, next, low);
-            word::put_i32(out, next + 4, up);
-            next + 8
-        }
+        } => put_between(out, at, lo, hi, step, low, up),
         Constructor::Layered { top, others } => {
             word::put_u8(out, at, top);
             word::put_u8(out, at + 1, others);
             at + 2
         }
+        Constructor::BetweenTrivial {
+            lo,
+            hi,
+            step,
+            low,
+            up,
+        } => put_between(out, at, lo, hi, step, low, up),
     }
 }
 
@@ -86,6 +99,13 @@ fn kind_for(c: Constructor) -> u8
             up: _,
         } => 4,
         Constructor::Layered { top: _, others: _ } => 5,
+        Constructor::BetweenTrivial {
+            lo: _,
+            hi: _,
+            step: _,
+            low: _,
+            up: _,
+        } => 8,
     }
 }
 

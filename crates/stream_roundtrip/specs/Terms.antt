@@ -8,6 +8,7 @@ use mir.Syntax.{w32}
 use mir.Val.{SFits}
 use Rattle.constructor.specs.declared.Constructor.{Constructor}
 use Rattle.constructor.specs.declared.Constructor.the-variants.{Lowest, Highest, Around, Between, Layered}
+use Rattle.constructor.specs.declared.Constructor.the-variants.{BetweenTrivial}
 use Rattle.preference.specs.List.{constructorAt, namedAt}
 use Rattle.preference.specs.Valid.{listRefusal}
 use Rattle.preference.specs.Same.{Same}
@@ -23,6 +24,7 @@ ConstructorFits (Highest lo hi step) = SFits w32 lo × SFits w32 hi
 ConstructorFits (Around lo hi step z) = SFits w32 lo × SFits w32 hi × SFits w32 z
 ConstructorFits (Between lo hi step low up) = SFits w32 lo × SFits w32 hi × SFits w32 low × SFits w32 up
 ConstructorFits (Layered top others) = Unit {0}
+ConstructorFits (BetweenTrivial lo hi step low up) = SFits w32 lo × SFits w32 hi × SFits w32 low × SFits w32 up
 
 abbrev pub LogFits : List ℤ → Type 0
 LogFits log = (j : ℕ) → SFits w32 (getD log j (pos 0))

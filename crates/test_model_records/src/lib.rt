@@ -1,6 +1,6 @@
-// A reader's verdict on a stream, written apart from the reader, from document 01 alone: no type, rule or number is
-// shared. Signed numbers are held with their top bit turned, which keeps their order among unsigned ones. Proved safe
-// and ending, no more.
+// A reader's verdict on a stream, written apart from the reader, from document 01 and order 2 of document 02 alone: no
+// type, rule or number is shared. Signed numbers are held with their top bit turned, which keeps their order among
+// unsigned ones. Proved safe and ending, no more.
 ghost use Prim.Native.Nat.{_<_, _≤_, _+_};
 ghost use lib.ListN.{length};
 
@@ -35,6 +35,7 @@ fn body(kind: u8) -> usize
         5 => 3,
         6 => 5,
         7 => 32,
+        8 => 21,
         _ => 0,
     }
 }
@@ -90,7 +91,7 @@ fn ends_refusal(lo: u64, hi: u64, step: u64) -> u32
     far_refusal(hi - lo, step)
 }
 
-// The figures of BETWEEN, and of AROUND where low and up are one.
+// The figures of BETWEEN and of kind 08, and of AROUND where low and up are one.
 fn target_refusal(lo: u64, hi: u64, step: u64, low: u64, up: u64) -> u32
     requires { ⌜ step < 4294967296 ⌝ }
 {
@@ -131,7 +132,7 @@ fn figures_refusal(s: &[u8], at: usize, kind: u8) -> u32
         let z = turned(s, at + 14);
         return target_refusal(lo, hi, step, z, z);
     }
-    if kind == 4 {
+    if (kind == 4) | (kind == 8) {
         return target_refusal(lo, hi, step, turned(s, at + 14), turned(s, at + 18));
     }
     ends_refusal(lo, hi, step)

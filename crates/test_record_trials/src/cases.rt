@@ -65,6 +65,13 @@ pub fn places() {
     );
 }
 
+// Kind 08 of document 02: a wish like BETWEEN, on which no named value follows.
+pub fn both_sides() {
+    show_front(b"kind 08:", &streams::BOTH_SIDES, 22, 8200);
+    show_front(b"kind 08, cut:", &streams::BOTH_SIDES, 21, 8200);
+    show_read(b"a named value after kind 08:", &streams::BOTH_SIDES, 8200);
+}
+
 fn after_run() {
     let mut s = [0u8; 41];
     put_bytes(&mut s, 0, &[5, 0, 1, 0, 7]);

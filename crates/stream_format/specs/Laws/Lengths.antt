@@ -16,6 +16,7 @@ use Rattle.preference.specs.declared.Named.{Named}
 use Rattle.preference.specs.declared.PreferenceList.{PreferenceList}
 use Rattle.constructor.specs.declared.Constructor.{Constructor}
 use Rattle.constructor.specs.declared.Constructor.the-variants.{Lowest, Highest, Around, Between, Layered}
+use Rattle.constructor.specs.declared.Constructor.the-variants.{BetweenTrivial}
 use Rattle.stream_format.specs.Kinds.{kinds, kindOf}
 use Rattle.stream_format.specs.Laws.Kinds.{longest, body-longest}
 use Rattle.stream_format.specs.declared.Class.the-variants.{PreferenceRecord}
@@ -34,6 +35,7 @@ constructor-long (Highest lo hi step) = refl
 constructor-long (Around lo hi step z) = refl
 constructor-long (Between lo hi step low up) = refl
 constructor-long (Layered top others) = refl
+constructor-long (BetweenTrivial lo hi step low up) = refl
 
 pub preference-long : (p : Preference) → length (preferenceBytes p) ≡ 1 + kindOf (kindFor (p .constructor)) .body
 unfolding preferenceBytes
@@ -47,6 +49,7 @@ kind-class (Highest lo hi step) = refl
 kind-class (Around lo hi step z) = refl
 kind-class (Between lo hi step low up) = refl
 kind-class (Layered top others) = refl
+kind-class (BetweenTrivial lo hi step low up) = refl
 
 pub preference-short : (p : Preference) → length (preferenceBytes p) ≤ 22
 preference-short p =

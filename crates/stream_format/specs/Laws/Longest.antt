@@ -42,7 +42,8 @@ layered-short (suc (suc (suc (suc zero)))) bs e y = false-true y
 layered-short (suc (suc (suc (suc (suc zero))))) bs e y = omega arith
 layered-short (suc (suc (suc (suc (suc (suc zero)))))) bs e y = absurd (omega (arith, ap longest e))
 layered-short (suc (suc (suc (suc (suc (suc (suc zero))))))) bs e y = absurd (omega (arith, ap longest e))
-layered-short (suc (suc (suc (suc (suc (suc (suc (suc k)))))))) bs e y = absurd (omega (arith, ap longest e))
+layered-short (suc (suc (suc (suc (suc (suc (suc (suc zero)))))))) bs e y = false-true y
+layered-short (suc (suc (suc (suc (suc (suc (suc (suc (suc k))))))))) bs e y = absurd (omega (arith, ap longest e))
 
 -- at most so many bytes: 22 for each preference, 6 for each named value, 33 for each run
 abbrev most : ReadAnswer → ℕ

@@ -1,5 +1,5 @@
 use Rattle.word.specs.Laws.Puts.{puts-byte, puts-then, puts-same}
-use Rattle.stream_record_writer.specs.Laws.Puts.{puts-int, puts-range}
+use Rattle.stream_record_writer.specs.Laws.Puts.{puts-int, puts-range, puts-between}
 use mathlib.Core.Path.{sym, ap, refl}
 use Rattle.word.specs.Word.{wordBytes, intBytes}
 use Rattle.stream_format.specs.Write.{constructorBytes}
@@ -36,22 +36,8 @@ add-result c = search needs
 enum-known-c-4 : tie.Need-enum-known-c-4
 enum-known-c-4 c = search needs
 
-put-range-requires-4 : tie.Need-put-range-requires-4
-put-range-requires-4 c κs = search needs
-
-put-i32-requires-2 : tie.Need-put-i32-requires-2
-put-i32-requires-2 c κs = search needs
-
-add-put-i32 : tie.Need-add-put-i32
-unfolding intBytes wordBytes
-add-put-i32 c = search needs
-
-put-i32-requires-3 : tie.Need-put-i32-requires-3
-put-i32-requires-3 c κs = search needs
-
-add-result-2 : tie.Need-add-result-2
-unfolding intBytes wordBytes
-add-result-2 c = search needs
+put-between-requires : tie.Need-put-between-requires
+put-between-requires c κs = search needs
 
 enum-known-c-5 : tie.Need-enum-known-c-5
 enum-known-c-5 c = search needs
@@ -65,8 +51,14 @@ add-put-u8 c = search needs
 put-u8-requires-2 : tie.Need-put-u8-requires-2
 put-u8-requires-2 c κs = search needs
 
-add-result-3 : tie.Need-add-result-3
-add-result-3 c = search needs
+add-result-2 : tie.Need-add-result-2
+add-result-2 c = search needs
+
+enum-known-c-6 : tie.Need-enum-known-c-6
+enum-known-c-6 c = search needs
+
+put-between-requires-2 : tie.Need-put-between-requires-2
+put-between-requires-2 c κs = search needs
 
 same-length : tie.Need-same-length
 same-length c = search needs
@@ -107,15 +99,11 @@ same-length-4 c = search needs
 
 returns-4 : tie.Need-returns-4
 returns-4 c =
-    let q = c .before .before .before .before .before .before in
-    let p = q .before .before .before .before in
+    let p = c .before .before in
     let g = p .before .before .before .c4 .given in
     let t = p .before .before .known-told4 .given in
-    let range = puts-range (g .0 .0) (g .0 .1 .0) (g .0 .1 .1 .0) (t .0 .1) (t .1 .0 .1) (p .put-range4 .ensures) in
-    puts-same (sym (ap constructorBytes (g .1)))
-    (puts-then
-    (puts-then range (puts-int (g .0 .1 .1 .1 .0) (t .1 .1 .1 .0 .1) refl (q .put-i322 .ensures)))
-    (puts-int (g .0 .1 .1 .1 .1 .0) (t .1 .1 .1 .1 .0 .1) (omega arith) (c .before .before .put-i323 .ensures)))
+    let between = puts-between (g .0 .0) (g .0 .1 .0) (g .0 .1 .1 .0) (g .0 .1 .1 .1 .0) (g .0 .1 .1 .1 .1 .0) in
+    puts-same (sym (ap constructorBytes (g .1))) (between (t .0 .1) (t .1 .0 .1) (t .1 .1 .1 .0 .1) (t .1 .1 .1 .1 .0 .1) (p .put-between .ensures))
 
 same-length-5 : tie.Need-same-length-5
 same-length-5 c = search needs
@@ -126,6 +114,17 @@ returns-5 c =
     let g = p .before .before .before .c5 .given in
     puts-same (sym (ap constructorBytes (g .1)))
     (puts-then (puts-byte refl (p .put-u8 .ensures)) (puts-byte (omega arith) (c .before .before .put-u82 .ensures)))
+
+same-length-6 : tie.Need-same-length-6
+same-length-6 c = search needs
+
+returns-6 : tie.Need-returns-6
+returns-6 c =
+    let p = c .before .before in
+    let g = p .before .before .before .c6 .given in
+    let t = p .before .before .known-told6 .given in
+    let between = puts-between (g .0 .0) (g .0 .1 .0) (g .0 .1 .1 .0) (g .0 .1 .1 .1 .0) (g .0 .1 .1 .1 .1 .0) in
+    puts-same (sym (ap constructorBytes (g .1))) (between (t .0 .1) (t .1 .0 .1) (t .1 .1 .1 .0 .1) (t .1 .1 .1 .1 .0 .1) (p .put-between2 .ensures))
 
 pub put-constructor-spec : {M : Type 1} → statement M
 put-constructor-spec =
@@ -140,16 +139,14 @@ put-constructor-spec =
     put-i32-requires
     add-result
     enum-known-c-4
-    put-range-requires-4
-    put-i32-requires-2
-    add-put-i32
-    put-i32-requires-3
-    add-result-2
+    put-between-requires
     enum-known-c-5
     put-u8-requires
     add-put-u8
     put-u8-requires-2
-    add-result-3
+    add-result-2
+    enum-known-c-6
+    put-between-requires-2
     same-length
     returns
     same-length-2
@@ -159,4 +156,6 @@ put-constructor-spec =
     same-length-4
     returns-4
     same-length-5
-    returns-5)
+    returns-5
+    same-length-6
+    returns-6)

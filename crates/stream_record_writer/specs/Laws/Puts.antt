@@ -11,7 +11,7 @@ use mir.Syntax.{w32}
 use mir.Val.{toZ, ofZ}
 use Rattle.arith.specs.Laws.Local.{num}
 use Rattle.word.specs.Word.{wordBytes, intBytes}
-use Rattle.stream_format.specs.Write.{intsBytes}
+use Rattle.stream_format.specs.Write.{betweenBytes, intsBytes}
 use Rattle.word.specs.Puts.{Puts}
 
 -- a signed number is held as its bits
@@ -25,6 +25,16 @@ pub puts-range : (lo hi : ℤ) (step : ℕ) {out last : List ℕ} {at next : ℕ
     → Puts out last at next (intBytes (toZ w32 (ofZ w32 lo)) ++ intBytes (toZ w32 (ofZ w32 hi)) ++ wordBytes step)
     → Puts out last at next (intBytes lo ++ intBytes hi ++ wordBytes step)
 puts-range lo hi step f g p = rw (num lo f, num hi g) at p
+
+-- a signed number as it is held
+abbrev held : ℤ → ℤ
+held v = toZ w32 (ofZ w32 v)
+
+pub puts-between : (lo hi : ℤ) (step : ℕ) (low up : ℤ) {out last : List ℕ} {at next : ℕ} → mag lo < 2147483648
+    → mag hi < 2147483648 → mag low < 2147483648 → mag up < 2147483648
+    → Puts out last at next (betweenBytes (held lo) (held hi) step (held low) (held up))
+    → Puts out last at next (betweenBytes lo hi step low up)
+puts-between lo hi step low up f g h k p = rw (num lo f, num hi g, num low h, num up k) at p
 
 -- one number more
 ints-append : (a b : List ℤ) → intsBytes (a ++ b) ≡ intsBytes a ++ intsBytes b

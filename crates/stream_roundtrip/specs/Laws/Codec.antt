@@ -12,11 +12,13 @@ use Rattle.word.specs.Word.{wordAt, intAt, wordBytes, intBytes}
 use Rattle.word.specs.Laws.Word.{Bytes, again-word, again-int, four-at, word-bytes-at, int-bytes-at, int-of-bytes}
 use Rattle.constructor.specs.declared.Constructor.{Constructor}
 use Rattle.constructor.specs.declared.Constructor.the-variants.{Lowest, Highest, Around, Between, Layered}
+use Rattle.constructor.specs.declared.Constructor.the-variants.{BetweenTrivial}
 use Rattle.preference.specs.declared.Preference.{Preference}
 use Rattle.preference.specs.declared.Named.{Named}
 use Rattle.stream_format.specs.Kinds.{kinds, kindOf, kindByte, classOf, bodyOf}
 use Rattle.stream_format.specs.Read.{constructorOf, preferenceOf, namedOf, intsAt}
-use Rattle.stream_format.specs.Write.{kindFor, constructorBytes, preferenceBytes, namedBytes, intsBytes, runBytes}
+use Rattle.stream_format.specs.Write.{kindFor, betweenBytes, constructorBytes, preferenceBytes, namedBytes}
+use Rattle.stream_format.specs.Write.{intsBytes, runBytes}
 use Rattle.stream_format.specs.Laws.Lengths.{int-long}
 use Rattle.stream_format.specs.declared.Class.{Class}
 use Rattle.stream_format.specs.declared.Class.the-variants.{Unknown, PreferenceRecord, NamedRecord, RunRecord}
@@ -34,6 +36,8 @@ constructor-back (Around lo hi step z) column rest h =
 constructor-back (Between lo hi step low up) column rest h =
     cc (again-int lo (h .0), again-int hi (h .1), again-word step, again-int low (h .2), again-int up (h .3))
 constructor-back (Layered top others) column rest h = refl
+constructor-back (BetweenTrivial lo hi step low up) column rest h =
+    cc (again-int lo (h .0), again-int hi (h .1), again-word step, again-int low (h .2), again-int up (h .3))
 
 pub preference-back : (p : Preference) (rest : List ℕ) → ConstructorFits (p .constructor)
     → preferenceOf (preferenceBytes p ++ rest) ≡ p
@@ -116,6 +120,10 @@ module _ (s : List ℕ) (b : Bytes s) where
       let e : 4 * suc n ≡ 4 + 4 * n = omega arith in
       rw e (more-at s at 4 (4 * n) (int-bytes-at s at (omega arith) b) (ints-bytes n (at + 4) (omega arith)))
 
+  between-bytes : 22 ≤ length s
+      → betweenBytes (intAt s 2) (intAt s 6) (wordAt s 10) (intAt s 14) (intAt s 18) ≡ take 20 (drop 2 s)
+  between-bytes h = int-more 16 (omega arith) (int-more 12 (omega arith) (range-bytes (omega arith)))
+
   by-kind : (k : ℕ) → kindByte s ≡ k → kindOf k .body < length s → Again s (suc (kindOf k .body)) (kindOf k .class)
   unfolding preferenceBytes namedBytes runBytes constructorOf kindOf kinds
   by-kind zero e h = tt
@@ -123,20 +131,16 @@ module _ (s : List ℕ) (b : Bytes s) where
   by-kind (suc (suc zero)) e h = rw (e, range-bytes (omega arith), pair-at s 12 (omega arith), e)
   by-kind (suc (suc (suc zero))) e h =
       rw (e, int-more 12 (omega arith) (range-bytes (omega arith)), pair-at s 16 (omega arith), e)
-  by-kind (suc (suc (suc (suc zero)))) e h =
-      rw (
-        e,
-        int-more 16 (omega arith) (int-more 12 (omega arith) (range-bytes (omega arith))),
-        pair-at s 20 (omega arith),
-        e,
-      )
+  by-kind (suc (suc (suc (suc zero)))) e h = rw (e, between-bytes (omega arith), pair-at s 20 (omega arith), e)
   by-kind (suc (suc (suc (suc (suc zero))))) e h = rw e (sym (rw (four-at s 0 (omega arith), e) refl))
   by-kind (suc (suc (suc (suc (suc (suc zero)))))) e h =
       λ i. rw (head-at s 5 (omega arith), e)
       (ap (λ (x : List ℕ). 6 ∷ x) (more-at s 1 4 1 (int-bytes-at s 1 (omega arith) b) (one-at s 5 (omega arith))))
   by-kind (suc (suc (suc (suc (suc (suc (suc zero))))))) e h =
       rw (head-at s 32 (omega arith), e, ints-bytes 8 1 (omega arith))
-  by-kind (suc (suc (suc (suc (suc (suc (suc (suc k)))))))) e h = tt
+  by-kind (suc (suc (suc (suc (suc (suc (suc (suc zero)))))))) e h =
+      rw (e, between-bytes (omega arith), pair-at s 20 (omega arith), e)
+  by-kind (suc (suc (suc (suc (suc (suc (suc (suc (suc k))))))))) e h = tt
 
   pub written-again : bodyOf s < length s → Again s (suc (bodyOf s)) (classOf s)
   written-again h = by-kind (kindByte s) refl h

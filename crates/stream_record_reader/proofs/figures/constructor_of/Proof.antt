@@ -67,9 +67,21 @@ returns-4 c = rw (c .match .keys4) (rw (lo (c .before), hi (c .before), c .befor
 
 returns-5 : tie.Need-returns-5
 unfolding constructorOf
-returns-5 c =
+returns-5 c = rw (c .match .keys5) (rw (lo (c .before), hi (c .before), c .before .before .before .get-u32 .ensures, low (c .before), up (c .before)))
+
+returns-6 : tie.Need-returns-6
+unfolding constructorOf
+returns-6 c =
     let k = c .before .before .match .rest in
-    rw (ne-eqb _ 1 (k .0 .0 .0 .1), ne-eqb _ 2 (k .0 .0 .1), ne-eqb _ 3 (k .0 .1), ne-eqb _ 4 (k .1), c .before .get-u8 .ensures, c .get-u82 .ensures)
+    rw (
+      ne-eqb _ 1 (k .0 .0 .0 .0 .1),
+      ne-eqb _ 2 (k .0 .0 .0 .1),
+      ne-eqb _ 3 (k .0 .0 .1),
+      ne-eqb _ 4 (k .0 .1),
+      ne-eqb _ 8 (k .1),
+      c .before .get-u8 .ensures,
+      c .get-u82 .ensures,
+    )
 
 pub constructor-of-spec : {M : Type 1} → statement M
 constructor-of-spec =
@@ -86,4 +98,5 @@ constructor-of-spec =
     returns-2
     returns-3
     returns-4
-    returns-5)
+    returns-5
+    returns-6)

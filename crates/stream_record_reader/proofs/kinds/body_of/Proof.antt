@@ -1,5 +1,6 @@
 use mathlib.Core.Path.{_≡_, sym, ap, _∙_}
-use Prim.Native.Nat.{ℕ}
+use mathlib.Core.Logic.{⊎-elim, inl, inr}
+use Prim.Native.Nat.{ℕ, _≤_}
 use native.Mathlib.Omega.{arith}
 use denote.Ref.{now}
 use Rattle.stream_format.specs.Kinds.{kinds, kindOf, kindByte}
@@ -24,7 +25,8 @@ returns c = (sym (ap of-kind (c .match .keys1)) ∙ same (c .before), omega arit
 
 returns-2 : tie.Need-returns-2
 unfolding kindOf kinds
-returns-2 c = (sym (ap of-kind (c .match .keys2)) ∙ same (c .before), omega arith)
+returns-2 c =
+    (⊎-elim (λ k. sym (ap of-kind k)) (λ k. sym (ap of-kind k)) (c .match .keys2) ∙ same (c .before), omega arith)
 
 returns-3 : tie.Need-returns-3
 unfolding kindOf kinds
@@ -48,8 +50,10 @@ returns-7 c = (sym (ap (λ (x : Kind). x .body) (none-at-zero (c .before .before
 returns-8 : tie.Need-returns-8
 returns-8 c =
     let r = c .before .before .match .rest in
-    let past =
-    none-past (c .before .before .before .get-u8 .result) (omega (arith, r .0 .0 .0 .0 .1, r .0 .0 .0 .1, r .0 .0 .1, r .0 .1, r .1, c .if2 .left)) in
+    let k = c .before .before .before .get-u8 .result in
+    let between : (k ≡ 4 → ⊥) × (k ≡ 8 → ⊥) = (λ e. r .0 .0 .0 .1 (inl e), λ e. r .0 .0 .0 .1 (inr e)) in
+    let six : 6 ≤ k = omega (arith, r .0 .0 .0 .0 .1, between .0, r .0 .0 .1, c .if2 .left) in
+    let past = none-past k (omega (arith, six, r .0 .1, r .1, between .1)) in
     (sym (ap (λ (x : Kind). x .body) past) ∙ same (c .before .before .before), omega arith)
 
 pub body-of-spec : {M : Type 1} → statement M
