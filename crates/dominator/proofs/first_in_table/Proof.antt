@@ -1,14 +1,44 @@
-use borrow.Author.Needs.{needs}
+use mathlib.Core.Path.{_≡_, sym, ap, _∙_}
+use mathlib.Core.List.{List}
+use Prim.Native.Nat.{ℕ, _≤_}
 use native.Mathlib.Omega.{arith}
-use Prim.Native.Nat.{ℕ, _≤_, _<_, _-_, _+_, _*_}
-use mathlib.Core.Path.{_≡_}
-use lib.ListN.{length}
+use lib.ListN.{length, take, length-replicate}
+use lib.Seq.{length-take-le}
 use borrow.Author.Needs.{needs}
+use Rattle.log.specs.Log.{logOf}
+use Rattle.pareto.specs.Best.{competing}
+use Rattle.pareto.specs.Laws.Competing.{competing-few, competing-front}
+use Rattle.dominator.specs.First.{bestBeats, firstOf}
+use Rattle.dominator.specs.Laws.First.{first-in-table}
 use Rattle.dominator.proofs.first_in_table.Statement.{statement}
 use Rattle.dominator.proofs.first_in_table.Tie as tie
-use Rattle.dominator.proofs.first_dominator.Reads as first-dominator-reads
-use Rattle.log.proofs.row_count.Reads as row-count-reads
-use Rattle.pareto.proofs.competing_rows.Reads as competing-rows-reads
+
+-- the rows at the front of their array
+module _ (e : tie.After-row-count) where
+  abbrev d : tie.After-competing-rows
+  d = e .before .before
+
+  abbrev start : tie.Start
+  start = d .before .before .before
+
+  abbrev rows : List ℕ
+  rows = d .competing-rows .last .1 .0
+
+  rows-long : d .competing-rows .result ≤ length rows
+  rows-long =
+      omega (
+        arith,
+        start .pre .0 .few,
+        d .competing-rows .ensures .0,
+        competing-few (logOf (start .args .log .now)),
+        d .competing-rows .kept .1 .0,
+        length-replicate {A = ℕ} 1024 0,
+      )
+
+  rows-are : take (d .competing-rows .result) rows ≡ competing (logOf (start .args .log .now))
+  rows-are =
+      competing-front (logOf (start .args .log .now)) _ rows (d .competing-rows .result)
+      (omega (arith, start .pre .0 .few, length-replicate {A = ℕ} 1024 0)) (d .competing-rows .ensures .0) (d .competing-rows .ensures .1)
 
 slice-aggregate-competing-rows : tie.Need-slice-aggregate-competing-rows
 slice-aggregate-competing-rows c = search needs
@@ -20,16 +50,22 @@ row-count-requires : tie.Need-row-count-requires
 row-count-requires c κs = search needs
 
 array-share-prefix-rows : tie.Need-array-share-prefix-rows
-array-share-prefix-rows c = search needs
+array-share-prefix-rows c = rows-long c
 
 slice-aggregate-first-dominator : tie.Need-slice-aggregate-first-dominator
-slice-aggregate-first-dominator c = search needs
+slice-aggregate-first-dominator c = sym (length-take-le _ (rows (c .before)) (rows-long (c .before)))
 
 first-dominator-requires : tie.Need-first-dominator-requires
 first-dominator-requires c κs = search needs
 
 returns : tie.Need-returns
-returns c = search needs
+returns c =
+    let d = c .before .before in
+    let s = start d in
+    let listed = take (d .before .before .competing-rows .result) (rows d) in
+    c .first-dominator .ensures
+    ∙ ap (λ (none : ℕ). firstOf (bestBeats (s .args .table .now) listed (s .args .row)) listed none) (d .row-count .ensures)
+    ∙ rw (s .pre .1, rows-are d) (first-in-table (s .args .list) (logOf (s .args .log .now)) (s .args .row) (s .pre .0))
 
 pub first-in-table-spec : {M : Type 1} → statement M
 first-in-table-spec =

@@ -66,6 +66,9 @@ table-fits l log h = go (isWide l) refl
 
 -- ---- filled into the front of a list of zeros, which is handed on
 
+pub handed-long : (n m : ℕ) → n ≤ m → length (take n (replicate {A = ℕ} m 0)) ≡ n
+handed-long n m h = length-take-le n (replicate m 0) (omega (arith, zeros-long m))
+
 module _ (l : PreferenceList) (log : List ℤ) (m n : ℕ) (e : n ≡ tableLength l log) (h : n ≤ m)
     (last : List ℕ) (f : last ≡ withTable l log (take n (replicate m 0))) where
   last-is : last ≡ tableOf l log

@@ -1,35 +1,88 @@
-use borrow.Author.Needs.{needs}
+use mathlib.Core.Path.{_≡_, sym}
+use mathlib.Core.List.{List, _++_}
+use Prim.Native.Nat.{ℕ, _≤_}
 use native.Mathlib.Omega.{arith}
-use Prim.Native.Nat.{ℕ, _≤_, _<_, _-_, _+_, _*_}
-use mathlib.Core.Path.{_≡_}
-use lib.ListN.{length}
+use lib.ListN.{length, take, drop, replicate}
+use lib.Seq.{length-take-le}
 use borrow.Author.Needs.{needs}
+use Rattle.level_table.specs.Table.{tableOf}
+use Rattle.level_table.specs.Laws.Table.{table-fits, handed-long, handed-fits, table-handed}
 use Rattle.window.proofs.run_accepted.Statement.{statement}
 use Rattle.window.proofs.run_accepted.Tie as tie
-use Rattle.level_table.proofs.fill_table.Reads as fill-table-reads
-use Rattle.level_table.proofs.table_length.Reads as table-length-reads
-use Rattle.window.proofs.run_table.Reads as run-table-reads
+
+-- two planes have room
+fits : (t : tie.After-table-length) → t .table-length .result ≤ 16384
+fits t =
+    let s = t .before .before .before in
+    omega (arith, t .table-length .ensures, table-fits (s .args .list) (s .args .log .now) (s .pre .few))
+
+-- the table in one plane, and in two
+module _ (f : tie.After-fill-table) where
+  abbrev sized : tie.After-table-length
+  sized = f .before .before .before
+
+  abbrev start : tie.Start
+  start = sized .before .before .before
+
+  abbrev long : ℕ
+  long = sized .table-length .result
+
+  abbrev plane : List ℕ
+  plane = f .fill-table .last .1 .1 .0 ++ drop long (replicate 8192 0)
+
+  plane-long : long ≤ length plane
+  plane-long =
+      handed-fits (start .args .list) (start .args .log .now) 8192 long (sized .table-length .ensures) (f .before .before .if1 .taken) _
+      (f .fill-table .ensures)
+
+  plane-is : take long plane ≡ tableOf (start .args .list) (start .args .log .now)
+  plane-is =
+      table-handed (start .args .list) (start .args .log .now) 8192 long (sized .table-length .ensures) (f .before .before .if1 .taken) _
+      (f .fill-table .ensures)
+
+module _ (f : tie.After-fill-table2) where
+  abbrev sized2 : tie.After-table-length
+  sized2 = f .before .before .before
+
+  abbrev start2 : tie.Start
+  start2 = sized2 .before .before .before
+
+  abbrev long2 : ℕ
+  long2 = sized2 .table-length .result
+
+  abbrev planes : List ℕ
+  planes = f .fill-table2 .last .1 .1 .0 ++ drop long2 (replicate 16384 0)
+
+  planes-long : long2 ≤ length planes
+  planes-long =
+      handed-fits (start2 .args .list) (start2 .args .log .now) 16384 long2 (sized2 .table-length .ensures) (fits sized2) _
+      (f .fill-table2 .ensures)
+
+  planes-are : take long2 planes ≡ tableOf (start2 .args .list) (start2 .args .log .now)
+  planes-are =
+      table-handed (start2 .args .list) (start2 .args .log .now) 16384 long2 (sized2 .table-length .ensures) (fits sized2) _
+      (f .fill-table2 .ensures)
 
 table-length-requires : tie.Need-table-length-requires
 table-length-requires c κs = search needs
 
 array-borrow-prefix-plane : tie.Need-array-borrow-prefix-plane
-array-borrow-prefix-plane c = search needs
+array-borrow-prefix-plane c = c .if1 .taken
 
 slice-aggregate-fill-table : tie.Need-slice-aggregate-fill-table
-slice-aggregate-fill-table c = search needs
+slice-aggregate-fill-table c = sym (handed-long _ 8192 (c .before .if1 .taken))
 
 fill-table-requires : tie.Need-fill-table-requires
 fill-table-requires c κs = search needs
 
 array-share-prefix-plane : tie.Need-array-share-prefix-plane
-array-share-prefix-plane c = search needs
+array-share-prefix-plane c = plane-long (c .before)
 
 slice-aggregate-run-table : tie.Need-slice-aggregate-run-table
-slice-aggregate-run-table c = search needs
+slice-aggregate-run-table c = sym (length-take-le _ (plane (c .before .before)) (plane-long (c .before .before)))
 
 run-table-requires : tie.Need-run-table-requires
-run-table-requires c κs = search needs
+run-table-requires c κs = let f = c .before .before .before .before in (start f .pre, plane-is f)
 
 same-length : tie.Need-same-length
 same-length c = search needs
@@ -38,25 +91,25 @@ same-length-2 : tie.Need-same-length-2
 same-length-2 c = search needs
 
 returns : tie.Need-returns
-returns c = search needs
+returns c = c .before .before .before .before .run-table .ensures
 
 array-borrow-prefix-planes : tie.Need-array-borrow-prefix-planes
-array-borrow-prefix-planes c = search needs
+array-borrow-prefix-planes c = fits (c .before)
 
 slice-aggregate-fill-table-2 : tie.Need-slice-aggregate-fill-table-2
-slice-aggregate-fill-table-2 c = search needs
+slice-aggregate-fill-table-2 c = sym (handed-long _ 16384 (fits (c .before .before)))
 
 fill-table-requires-2 : tie.Need-fill-table-requires-2
 fill-table-requires-2 c κs = search needs
 
 array-share-prefix-planes : tie.Need-array-share-prefix-planes
-array-share-prefix-planes c = search needs
+array-share-prefix-planes c = planes-long (c .before)
 
 slice-aggregate-run-table-2 : tie.Need-slice-aggregate-run-table-2
-slice-aggregate-run-table-2 c = search needs
+slice-aggregate-run-table-2 c = sym (length-take-le _ (planes (c .before .before)) (planes-long (c .before .before)))
 
 run-table-requires-2 : tie.Need-run-table-requires-2
-run-table-requires-2 c κs = search needs
+run-table-requires-2 c κs = let f = c .before .before .before .before in (start2 f .pre, planes-are f)
 
 same-length-3 : tie.Need-same-length-3
 same-length-3 c = search needs
@@ -65,7 +118,7 @@ same-length-4 : tie.Need-same-length-4
 same-length-4 c = search needs
 
 returns-2 : tie.Need-returns-2
-returns-2 c = search needs
+returns-2 c = c .before .before .before .before .run-table2 .ensures
 
 pub run-accepted-spec : {M : Type 1} → statement M
 run-accepted-spec =
