@@ -43,7 +43,7 @@ fn same_counts(what: &str, stream: &[u8], w: u32) -> usize {
     if facts.outside {
         return 0;
     }
-    let count = machine::run(&facts.levels, w as usize).compares;
+    let count = machine::run(&facts.parts, w as usize).compares;
     for (peer, compared) in compares(stream, w) {
         assert!(u64::from(compared) == count, "{peer}: {compared} compares on {what}, w {w}: the machine makes {count}");
     }

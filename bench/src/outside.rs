@@ -51,7 +51,7 @@ impl Outside {
             return None;
         }
         let file = out.join("levels").join(format!("{}.txt", case.name.replace(' ', "-")));
-        write_levels(&facts.levels, &file);
+        write_levels(&facts.parts, &file);
         let (best, _) = self.question(&file, 1);
         assert!(best == facts.best, "{}: {best} best rows on {}, ours are {}", self.name, case.name, facts.best);
         Some(Box::new(move |calls| self.question(&file, calls).1 / f64::from(calls)))
