@@ -223,14 +223,14 @@ pub fn mostly_best(random: &mut Random, rows: usize) -> Generated {
 
 /// The same with sixteen level parts, under eight wishes of kind 08: one run of five lies further out than another.
 pub fn mostly_best_of_pairs(random: &mut Random, rows: usize) -> Generated {
-    let wishes = (0..8).map(|column| sided(column, -20, 20, 1, 0, 0)).collect();
+    let wishes = (0..8).map(|column| sided(column, 80, 120, 1, 100, 100)).collect();
     let mut runs: Vec<[i32; 8]> = vec![];
     for _ in 0..rows {
         let mut run = equal_sum(random);
         if !runs.is_empty() && random.one_in(5) {
             run = random.pick(&runs);
             let value = &mut run[random.below(8) as usize];
-            *value = (*value + value.signum()).clamp(-20, 20);
+            *value = (*value + (*value - 100).signum()).clamp(80, 120);
         }
         runs.push(run);
     }
@@ -238,14 +238,14 @@ pub fn mostly_best_of_pairs(random: &mut Random, rows: usize) -> Generated {
     Generated { wishes, runs }
 }
 
-/// Levels whose sum is 40, each above or below by chance: no such run betters another.
+/// Levels whose sum is 40, each above or below 100 by chance: no such run betters another.
 fn equal_sum(random: &mut Random) -> [i32; 8] {
     let mut run = [0; 8];
     for two in run.chunks_mut(2) {
         two[0] = random.between(0, 10) as i32;
         two[1] = 10 - two[0];
     }
-    run.map(|level| if random.one_in(2) { level } else { -level })
+    run.map(|level| if random.one_in(2) { 100 + level } else { 100 - level })
 }
 
 /// The longest stream that reads: 34,334 bytes.

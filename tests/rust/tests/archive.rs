@@ -559,16 +559,16 @@ fn one_level_beside_a_pair() {
     }
 }
 
-/// A run that has level `level` in one of sixteen parts: above or below in one of eight columns, inside in the others.
+/// A run that has level `level` in one of sixteen parts: above or below 10 in one of eight columns, 10 in the others.
 fn off(part: usize, level: i32) -> [i32; 8] {
-    let value = if part % 2 == 0 { level } else { -level };
-    std::array::from_fn(|column| if column == part / 2 { value } else { 0 })
+    let value = if part % 2 == 0 { 10 + level } else { 10 - level };
+    std::array::from_fn(|column| if column == part / 2 { value } else { 10 })
 }
 
 /// Eight wishes of kind 08: whichever of the sixteen parts two runs differ in, it counts.
 #[test]
 fn sixteen_parts() {
-    let wishes: Vec<Record> = (0..8).map(|column| sided(column, -2, 2, 1, 0, 0)).collect();
+    let wishes: Vec<Record> = (0..8).map(|column| sided(column, 8, 12, 1, 10, 10)).collect();
     for w in [1, 2, 64] {
         let two = |a, b| two_marks(Call::Window { w }, &wishes, [a, b]);
         for i in 0..16 {
@@ -588,7 +588,7 @@ fn sixteen_parts() {
 fn sixteen_parts_in_a_lattice() {
     for fixed in [0, 3, 7] {
         let far = |column: u8| i32::from(column != fixed);
-        let wishes: Vec<Record> = (0..8).map(|column| sided(column, -far(column), far(column), 1, 0, 0)).collect();
+        let wishes: Vec<Record> = (0..8).map(|column| sided(column, 10 - far(column), 10 + far(column), 1, 10, 10)).collect();
         let two = |a, b| two_marks(LATTICE, &wishes, [a, b]);
         let parts: Vec<usize> = (0..16).filter(|part| part / 2 != usize::from(fixed)).collect();
         for i in &parts {
@@ -604,8 +604,8 @@ fn sixteen_parts_in_a_lattice() {
 #[test]
 fn nodes_over_all_parts() {
     for place in 0..8 {
-        let list = |top: i32| (0..8).flat_map(|column| sided(column, 0, if column == place { top } else { 0 }, 1, 0, 0)).collect::<Vec<u8>>();
-        let best = [list(180), run(&[0; 8])].concat();
+        let list = |top: i32| (0..8).flat_map(|column| sided(column, 1, if column == place { 1 + top } else { 1 }, 1, 1, 1)).collect::<Vec<u8>>();
+        let best = [list(180), run(&[1; 8])].concat();
         assert_eq!(call(LATTICE, &best, 1).result, 1, "M 180 in place {place}");
         // 32,761 nodes in rows of 181: each row and each column of them has 180 edges.
         assert_eq!(call(Call::Lattice { budget: 65_160 }, &best, 1).result, 1, "M 180 in place {place}");
@@ -619,8 +619,8 @@ fn nodes_over_all_parts() {
 #[test]
 fn the_most_crossings() {
     for place in 0..8 {
-        let wish = |column: u8| if column == place { lowest(column, 0, 1, 1) } else { sided(column, 0, 1, 1, 0, 0) };
-        let bytes = [(0..8).flat_map(wish).collect(), run(&[0; 8]), run(&[1; 8])].concat();
+        let wish = |column: u8| if column == place { lowest(column, 1, 2, 1) } else { sided(column, 1, 2, 1, 1, 1) };
+        let bytes = [(0..8).flat_map(wish).collect(), run(&[1; 8]), run(&[2; 8])].concat();
         for (budget, result, marks) in [(245_760, 1, vec![1, 0]), (262_144, 1, vec![1, 0]), (245_759, -11, old_marks(2))] {
             let left = call(Call::Lattice { budget }, &bytes, 2);
             assert_eq!((left.result, left.marks), (result, marks), "budget {budget}, one part in place {place}");
