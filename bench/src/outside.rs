@@ -2,6 +2,7 @@
 //! A question is a line `FILE CALLS`, the answer a line `BEST NANOSECONDS`: the best rows, and the time of all calls.
 
 use crate::inputs::Case;
+use crate::peers::comes_to_kind_08;
 use flat_calls::model::flat;
 use std::fs;
 use std::io::{BufRead, BufReader, Write};
@@ -44,10 +45,11 @@ impl Outside {
         (best.parse().expect("a count"), time.parse().expect("a time"))
     }
 
-    /// Its best rows have to be as many as ours before it is timed. One row is not asked about: pagmo refuses it.
+    /// Its best rows have to be as many as ours before it is timed. One row is not asked about: pagmo refuses it. Inputs with kind 08 are
+    /// for ours alone.
     pub fn timer<'a>(&'a mut self, case: &Case, out: &Path) -> Option<Box<dyn FnMut(u32) -> f64 + 'a>> {
         let facts = flat::facts(&case.stream).expect("timed streams read");
-        if facts.rows < 2 {
+        if facts.rows < 2 || comes_to_kind_08(&case.stream) {
             return None;
         }
         let file = out.join("levels").join(format!("{}.txt", case.name.replace(' ', "-")));
