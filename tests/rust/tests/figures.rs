@@ -266,7 +266,7 @@ fn pairs_of_kind_08() {
     let price = sided(0, 45, 75, 5, 50, 50);
     assert_eq!(pairs_under(&price, &[45, 50, 55, 70, 75]), table(&[&[0, 1], &[0, 0], &[1, 0], &[4, 3], &[5, 4]]));
     assert_eq!(pairs_under(&price, &[50, 70, 75, 55, 45, 45]), table(&[&[0, 0], &[4, 3], &[5, 4], &[1, 0], &[0, 1], &[0, 1]]));
-    assert_eq!(levels_under(&[price.clone()], &[45, 50, 55, 70, 75]), [1, 0, 1, 4, 5]);
+    assert_eq!(levels_under(std::slice::from_ref(&price), &[45, 50, 55, 70, 75]), [1, 0, 1, 4, 5]);
     assert_eq!(tops(&[price]), [5, 5]);
     let inside = sided(0, 50, 95, 5, 60, 80);
     assert_eq!(pairs_under(&inside, &[50, 59, 60, 80, 81, 95]), table(&[&[1, 2], &[0, 1], &[0, 0], &[0, 0], &[1, 0], &[3, 2]]));
@@ -281,7 +281,7 @@ fn pairs_of_kind_08() {
 fn nodes_of_a_pair() {
     assert_eq!(lattice::nodes(&tops(&[sided(0, 45, 75, 5, 50, 50)])), Some(36));
     let both_sides = sided(0, 25, 75, 5, 50, 50);
-    assert_eq!(lattice::nodes(&tops(&[both_sides.clone()])), Some(36));
+    assert_eq!(lattice::nodes(&tops(std::slice::from_ref(&both_sides))), Some(36));
     let values: Vec<i32> = (25..=75).collect();
     let held: BTreeSet<usize> = pairs_under(&both_sides, &values).iter().map(|pair| lattice::node(&[5, 5], pair)).collect();
     assert_eq!(held.len(), 11);
