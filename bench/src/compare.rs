@@ -1,9 +1,10 @@
 //! What one compare costs, and what a call costs besides: reading, checks and levels.
 
 use crate::inputs::{all_best, one_best, WIDEST};
-use crate::peers::{compares, Peer, PEERS};
+use crate::peers::{Peer, PEERS};
 use crate::timing::{calls_for, once, quantile, REPETITIONS};
 use flat_calls::calls::Call;
+use flat_calls::model::{flat, machine};
 
 /// The median time of one call in nanoseconds on each of two streams, taken in turn.
 fn medians(peer: &Peer, call: Call, streams: &[Vec<u8>; 2]) -> [f64; 2] {
@@ -17,13 +18,21 @@ fn medians(peer: &Peer, call: Call, streams: &[Vec<u8>; 2]) -> [f64; 2] {
     times.map(|times| quantile(&times, 0.5))
 }
 
-pub fn print() {
-    let streams = [all_best(), one_best()];
-    let [made, few] = streams.each_ref().map(|stream| f64::from(compares(stream, WIDEST)[0].1));
+/// The machine's compares.
+fn compares(stream: &[u8]) -> f64 {
+    let facts = flat::facts(stream).expect("timed streams read");
+    machine::run(&facts.parts, WIDEST as usize).compares as f64
+}
+
+/// With so many of the eight wishes of kind 08.
+fn print_with(pairs: usize) {
+    let call = Call::Window { w: WIDEST };
+    let streams = [all_best(pairs), one_best(pairs)];
+    let [made, few] = streams.each_ref().map(|stream| compares(stream));
     println!();
-    println!("window {WIDEST}, 1024 runs, all best: {made} compares; the same runs behind one that betters them: {few}");
-    for peer in PEERS.iter().filter(|peer| ["ours", "C"].contains(&peer.name)) {
-        let [all, besides] = medians(peer, Call::Window { w: WIDEST }, &streams);
+    println!("window {WIDEST}, 1024 runs, {} parts, all best: {made} compares; the same runs behind one that betters them: {few}", 8 + pairs);
+    for peer in PEERS.iter().filter(|peer| ["ours", "C"].contains(&peer.name) && peer.answers(call, &streams[0])) {
+        let [all, besides] = medians(peer, call, &streams);
         let each = (all - besides) / (made - few);
         println!(
             "{}: {:.1} us and {:.1} us: a compare {each:.2} ns, reading, checks and levels {:.3} of the rest",
@@ -33,4 +42,9 @@ pub fn print() {
             besides / (all - besides)
         );
     }
+}
+
+pub fn print() {
+    print_with(0);
+    print_with(8);
 }

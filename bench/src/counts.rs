@@ -36,7 +36,7 @@ pub fn make() {
         std::process::exit(1);
     }
     for case in inputs::all() {
-        PEERS.iter().filter(|peer| peer.answers(case.call)).for_each(|peer| count(&case, peer));
+        PEERS.iter().filter(|peer| peer.answers(case.call, &case.stream)).for_each(|peer| count(&case, peer));
     }
 }
 

@@ -2,7 +2,7 @@
 
 use flat_calls::calls::Call;
 use flat_calls::random::{Random, SEED};
-use flat_calls::records::{around, between, highest, layered, lowest, named, run, Record};
+use flat_calls::records::{around, between, highest, layered, lowest, named, run, sided, Record};
 
 pub struct Case {
     pub name: String,
@@ -25,31 +25,42 @@ fn least(column: usize) -> i32 {
     }
 }
 
-/// LOWEST and HIGHEST in turn, with these greatest levels.
-fn wishes(tops: &[i32]) -> Vec<Record> {
+/// So many wishes of kind 08, then LOWEST and HIGHEST in turn, with these greatest levels.
+fn wishes(pairs: usize, tops: &[i32]) -> Vec<Record> {
     let wish = |(column, top): (u8, &i32)| {
-        let lo = least(usize::from(column));
-        let of = if column % 2 == 0 { lowest } else { highest };
-        of(column, lo, lo + top * STEP, STEP as u32)
+        let (lo, far) = (least(usize::from(column)), top * STEP);
+        match column {
+            _ if usize::from(column) < pairs => sided(column, lo, lo + 2 * far, STEP as u32, lo + far, lo + far),
+            _ if column % 2 == 0 => lowest(column, lo, lo + far, STEP as u32),
+            _ => highest(column, lo, lo + far, STEP as u32),
+        }
     };
     (0..).zip(tops).map(wish).collect()
 }
 
-/// A run with these levels: any value that has the level can come.
-fn with_levels(random: &mut Random, tops: &[i32], levels: &[i32]) -> Record {
+/// A run with these levels, under kind 08 a negative one below: any value that has the level can come.
+fn with_levels(random: &mut Random, pairs: usize, tops: &[i32], levels: &[i32]) -> Record {
     let mut values = [0; 8];
     for (column, (top, level)) in tops.iter().zip(levels).enumerate() {
         let short = if *level == 0 { 0 } else { random.below(STEP as u64) as i32 };
-        let distance = level * STEP - short;
-        let lo = least(column);
-        values[column] = if column % 2 == 0 { lo + distance } else { lo + top * STEP - distance };
+        let distance = level.abs() * STEP - short;
+        let (lo, far) = (least(column), top * STEP);
+        values[column] = match column {
+            _ if column < pairs => lo + far + level.signum() * distance,
+            _ if column % 2 == 0 => lo + distance,
+            _ => lo + far - distance,
+        };
     }
     run(&values)
 }
 
 fn stream(random: &mut Random, tops: &[i32], rows: impl IntoIterator<Item = Vec<i32>>) -> Vec<u8> {
-    let mut records = wishes(tops);
-    records.extend(rows.into_iter().map(|levels| with_levels(random, tops, &levels)));
+    stream_with_pairs(random, 0, tops, rows)
+}
+
+fn stream_with_pairs(random: &mut Random, pairs: usize, tops: &[i32], rows: impl IntoIterator<Item = Vec<i32>>) -> Vec<u8> {
+    let mut records = wishes(pairs, tops);
+    records.extend(rows.into_iter().map(|levels| with_levels(random, pairs, tops, &levels)));
     records.concat()
 }
 
@@ -79,10 +90,19 @@ fn worsen_some(random: &mut Random, tops: &[i32], rows: &mut [Vec<i32>]) {
     for r in (15..rows.len()).step_by(16) {
         rows[r] = rows[r - 1].clone();
         let column = random.below(tops.len() as u64) as usize;
-        rows[r][column] = (rows[r][column] + 1).min(tops[column]);
+        let further = if rows[r][column] < 0 { -1 } else { 1 };
+        rows[r][column] = (rows[r][column] + further).clamp(-tops[column], tops[column]);
         if random.one_in(2) {
             rows.swap(r, r - 1);
         }
+    }
+}
+
+/// The first levels of each row lie above or below by chance: a negative one is below.
+fn put_on_sides(pairs: usize, rows: &mut [Vec<i32>]) {
+    let random = &mut Random::new(SEED + 1);
+    for level in rows.iter_mut().flat_map(|row| &mut row[..pairs]) {
+        *level = if random.one_in(2) { *level } else { -*level };
     }
 }
 
@@ -111,20 +131,22 @@ fn windows() -> Vec<Case> {
 
 pub const WIDEST: u32 = 1_024;
 
-fn equal_sums() -> Vec<Vec<i32>> {
-    rows_of(ROWS, &mut Random::new(SEED), &[99; 8], anticorrelated)
+fn equal_sums(pairs: usize) -> Vec<Vec<i32>> {
+    let mut rows = rows_of(ROWS, &mut Random::new(SEED), &[99; 8], anticorrelated);
+    put_on_sides(pairs, &mut rows);
+    rows
 }
 
-/// No run betters another: the most compares that there can be.
-pub fn all_best() -> Vec<u8> {
-    stream(&mut Random::new(SEED), &[99; 8], equal_sums())
+/// No run betters another: the most compares that there can be. So many of the eight wishes are of kind 08.
+pub fn all_best(pairs: usize) -> Vec<u8> {
+    stream_with_pairs(&mut Random::new(SEED), pairs, &[99; 8], equal_sums(pairs))
 }
 
 /// The same runs, but for the first, which betters all others: one compare each.
-pub fn one_best() -> Vec<u8> {
-    let mut rows = equal_sums();
+pub fn one_best(pairs: usize) -> Vec<u8> {
+    let mut rows = equal_sums(pairs);
     rows[0] = vec![0; 8];
-    stream(&mut Random::new(SEED), &[99; 8], rows)
+    stream_with_pairs(&mut Random::new(SEED), pairs, &[99; 8], rows)
 }
 
 /// At most 32,768 nodes each.
@@ -189,6 +211,32 @@ fn five_forms() -> Vec<u8> {
     records.concat()
 }
 
+/// Wishes of kind 08, which no peer knows. With eight of them the levels are those of the anticorrelated window input, so that as many
+/// compares are made over twice the parts.
+fn pair_windows() -> Vec<Case> {
+    let mut cases = vec![];
+    for wishes in [4, 8] {
+        let random = &mut Random::new(SEED);
+        let tops = vec![99; wishes];
+        let mut rows = rows_of(ROWS, random, &tops, anticorrelated);
+        put_on_sides(wishes, &mut rows);
+        worsen_some(random, &tops, &mut rows);
+        let stream = stream_with_pairs(random, wishes, &tops, rows);
+        cases.push(Case { name: format!("window 64, kind 08, {} parts", 2 * wishes), call: WINDOW, stream });
+    }
+    cases
+}
+
+/// Two wishes of kind 08 and one other make the lattice of five wishes.
+fn pair_lattice() -> Case {
+    let random = &mut Random::new(SEED);
+    let tops = [7; 3];
+    let mut rows = rows_of(ROWS, random, &tops, uniform);
+    rows[ROWS / 2] = vec![0; 3];
+    put_on_sides(2, &mut rows);
+    Case { name: "lattice 8^5, kind 08, all reached".into(), call: LATTICE, stream: stream_with_pairs(random, 2, &tops, rows) }
+}
+
 /// All inputs, or with ONLY in the environment those that have its text in their name.
 pub fn all() -> Vec<Case> {
     let only = std::env::var("ONLY").unwrap_or_default();
@@ -198,6 +246,8 @@ pub fn all() -> Vec<Case> {
     for (engine, call) in [("window 64", WINDOW), ("lattice", LATTICE)] {
         cases.push(Case { name: format!("{engine}, five forms"), call, stream: five_forms() });
     }
+    cases.extend(pair_windows());
+    cases.push(pair_lattice());
     cases.retain(|case| case.name.contains(&only));
     cases
 }

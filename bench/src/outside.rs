@@ -2,6 +2,7 @@
 //! A question is a line `FILE CALLS`, the answer a line `BEST NANOSECONDS`: the best rows, and the time of all calls.
 
 use crate::inputs::Case;
+use crate::peers::comes_to_kind_08;
 use flat_calls::model::flat;
 use std::fs;
 use std::io::{BufRead, BufReader, Write};
@@ -44,14 +45,15 @@ impl Outside {
         (best.parse().expect("a count"), time.parse().expect("a time"))
     }
 
-    /// Its best rows have to be as many as ours before it is timed. One row is not asked about: pagmo refuses it.
+    /// Its best rows have to be as many as ours before it is timed. One row is not asked about: pagmo refuses it. Inputs with kind 08 are
+    /// for ours alone.
     pub fn timer<'a>(&'a mut self, case: &Case, out: &Path) -> Option<Box<dyn FnMut(u32) -> f64 + 'a>> {
         let facts = flat::facts(&case.stream).expect("timed streams read");
-        if facts.rows < 2 {
+        if facts.rows < 2 || comes_to_kind_08(&case.stream) {
             return None;
         }
         let file = out.join("levels").join(format!("{}.txt", case.name.replace(' ', "-")));
-        write_levels(&facts.levels, &file);
+        write_levels(&facts.parts, &file);
         let (best, _) = self.question(&file, 1);
         assert!(best == facts.best, "{}: {best} best rows on {}, ours are {}", self.name, case.name, facts.best);
         Some(Box::new(move |calls| self.question(&file, calls).1 / f64::from(calls)))

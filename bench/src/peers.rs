@@ -2,6 +2,8 @@
 //! and without bounds checks, the nested loop.
 
 use flat_calls::calls::{raw, Call};
+use flat_calls::model::reader::{read, Form, SIDED};
+use flat_calls::records::sided;
 
 mod c {
     extern "C" {
@@ -31,9 +33,19 @@ impl Peer {
         (self.run)(call, stream, marks)
     }
 
-    pub fn answers(&self, call: Call) -> bool {
-        self.call(call, &[], &mut []).is_some()
+    /// Whether the peer has the engine, and knows kind 08 where the stream has it. The peers are older and refuse it by 2, and so may the
+    /// archive from before a change.
+    pub fn answers(&self, call: Call, stream: &[u8]) -> bool {
+        let asked = if comes_to_kind_08(stream) { sided(0, 0, 1, 1, 0, 0) } else { vec![] };
+        !matches!(self.call(call, &asked, &mut []), None | Some(-2))
     }
+}
+
+/// Whether reading comes to a record of kind 08.
+pub fn comes_to_kind_08(stream: &[u8]) -> bool {
+    let end = read(stream).map_or_else(|refusal| refusal.place, |_| stream.len());
+    let before = read(&stream[..end]).is_ok_and(|input| input.wishes.iter().any(|wish| matches!(wish.form, Form::Sided { .. })));
+    before || stream.get(end) == Some(&SIDED)
 }
 
 /// The archive from before a change. What the change brings it may refuse, so it is held against ours on the timed inputs alone.

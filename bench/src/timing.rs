@@ -56,7 +56,7 @@ fn timers<'a>(case: &'a Case, others: &'a mut [Outside], out: &Path) -> Vec<Opti
     let mut timers: Vec<Option<Once<'a>>> = vec![];
     for peer in PEERS {
         let timer: Once = Box::new(|calls| once(peer, case.call, &case.stream, calls));
-        timers.push(peer.answers(case.call).then_some(timer));
+        timers.push(peer.answers(case.call, &case.stream).then_some(timer));
     }
     for other in others {
         timers.push(other.timer(case, out));
@@ -91,7 +91,7 @@ fn measure(case: &Case, others: &mut [Outside], out: &Path) -> Vec<String> {
     }
     let mut row = vec![case.name.clone(), short(quantile(&times[0], 0.5) / 1e3)];
     #[cfg(before)]
-    row.push(crate::placed::column(case));
+    row.push(if times[1].is_empty() { "-".into() } else { crate::placed::column(case) });
     let shown = row.len() - 1;
     row.extend(times[shown..].iter().map(|theirs| if theirs.is_empty() { "-".into() } else { cell(&times[0], theirs) }));
     row

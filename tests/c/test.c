@@ -1,5 +1,5 @@
 /* The flat calls from C, through the header alone. Every buffer is allocated at its exact length, so that valgrind sees a byte
- * read or written past an end. Expected figures are document 01's. */
+ * read or written past an end. Expected figures are document 01's, and order 2's of document 02 where the kind is 08. */
 #include "shortlist.h"
 
 #include <errno.h>
@@ -43,6 +43,13 @@ static void wish(unsigned kind, unsigned column, int64_t lo, int64_t hi, int64_t
     number(step);
 }
 
+/* Kind 08: BETWEEN's body. */
+static void sided(unsigned column, int64_t lo, int64_t hi, int64_t step, int64_t low, int64_t up) {
+    wish(8, column, lo, hi, step);
+    number(low);
+    number(up);
+}
+
 static void layered(unsigned column, unsigned top, unsigned others) {
     byte(5);
     byte(column);
@@ -56,14 +63,17 @@ static void named(int64_t value, unsigned layer) {
     byte(layer);
 }
 
-static void run(int64_t hours, int64_t cubic_metres, int64_t density) {
+/* A run whose columns from the fourth on are alike. */
+static void run_with(int64_t hours, int64_t cubic_metres, int64_t density, int64_t rest) {
     byte(7);
     number(hours);
     number(cubic_metres);
     number(density);
     for (int column = 3; column < 8; column++)
-        number(0);
+        number(rest);
 }
+
+static void run(int64_t hours, int64_t cubic_metres, int64_t density) { run_with(hours, cubic_metres, density, 0); }
 
 static void harbour_wishes(void) {
     built.length = 0;
@@ -72,13 +82,24 @@ static void harbour_wishes(void) {
     number(1250);
 }
 
-static void harbour(void) {
-    harbour_wishes();
+/* The same with kind 08 in place of AROUND. */
+static void sided_wishes(void) {
+    built.length = 0;
+    wish(2, 1, 0, 1000, 100);
+    sided(2, 1000, 1600, 50, 1250, 1250);
+}
+
+static void harbour_runs(void) {
     run(800, 900, 1300);
     run(650, 1000, 1400);
     run(700, 850, 1250);
     run(720, 880, 1210);
     run(810, 900, 1270);
+}
+
+static void harbour(void) {
+    harbour_wishes();
+    harbour_runs();
 }
 
 /* A call on buffers of exact length. */
@@ -221,6 +242,81 @@ static void test_reading(void) {
     unreadable("65th named value", SHORTLIST_TOO_MANY);
 }
 
+static void test_harbour_with_08(void) {
+    sided_wishes();
+    harbour_runs();
+    check(built.length == 201, "Harbour log with 08 has 201 bytes");
+    accepted("Harbour log with 08, w 1", WINDOW, 5, 1, "11101");
+    accepted("Harbour log with 08, w 4", WINDOW, 6, 4, "11101");
+    accepted("Harbour log with 08, budget 1,752", LATTICE, 5, 1752, "11101");
+    refused("Harbour log with 08, budget 1,751", LATTICE, 5, 1751, SHORTLIST_BUDGET_SPENT);
+    run(800, 900, 1601);
+    refused("08, a density above hi", WINDOW, 6, 64, SHORTLIST_VALUE_OUTSIDE);
+    /* 50 under the target and 50 over it: AROUND lists one, 08 both. */
+    harbour_wishes();
+    run(1, 900, 1200);
+    run(1, 800, 1300);
+    accepted("AROUND", LATTICE, 2, SHORTLIST_ENOUGH_BUDGET, "10");
+    sided_wishes();
+    run(1, 900, 1200);
+    run(1, 800, 1300);
+    accepted("too thin is not too thick, lattice", LATTICE, 2, SHORTLIST_ENOUGH_BUDGET, "11");
+    accepted("too thin is not too thick, window", WINDOW, 2, 64, "11");
+}
+
+static void test_reading_of_08(void) {
+    unreadable_bytes("08 alone", "\x08", 1, SHORTLIST_CUT_SHORT);
+    unreadable_bytes("kind 0", "\0", 1, SHORTLIST_UNKNOWN_KIND);
+    unreadable_bytes("kind 255", "\xFF", 1, SHORTLIST_UNKNOWN_KIND);
+    sided_wishes();
+    named(1250, 0);
+    unreadable("named value after 08", SHORTLIST_OUT_OF_PLACE);
+    sided_wishes();
+    sided(2, 0, 9, 1, 4, 5);
+    unreadable("08 on a taken column", SHORTLIST_BAD_COLUMN);
+    sided_wishes();
+    sided(3, 0, 9, 1, 5, 4);
+    unreadable("08, low above up", SHORTLIST_BAD_FIGURE);
+    sided_wishes();
+    sided(3, 0, 65536, 1, 0, 0);
+    unreadable("08, M 65,536", SHORTLIST_TOO_MANY);
+    sided_wishes();
+    byte(9);
+    unreadable("unknown kind after 08", SHORTLIST_UNKNOWN_KIND);
+}
+
+/* So many wishes of kind 08 with M 1 on either side of 2. */
+static void so_many_of_08(unsigned wishes) {
+    built.length = 0;
+    for (unsigned column = 0; column < wishes; column++)
+        sided(column, 1, 3, 1, 2, 2);
+}
+
+static void run_of_twos(int64_t hours, int64_t cubic_metres, int64_t density) { run_with(hours, cubic_metres, density, 2); }
+
+/* Up to sixteen level parts. */
+static void test_parts(void) {
+    so_many_of_08(7);
+    wish(1, 7, 2, 3, 1);
+    run_of_twos(2, 2, 2);
+    accepted("fifteen parts, 245,760 crossings", LATTICE, 1, 245760, "1");
+    refused("fifteen parts, a crossing short", LATTICE, 1, 245759, SHORTLIST_BUDGET_SPENT);
+    so_many_of_08(8);
+    run_of_twos(3, 2, 2);
+    run_of_twos(1, 2, 2);
+    run_of_twos(2, 3, 1);
+    refused("sixteen parts, 65,536 nodes", LATTICE, 3, SHORTLIST_ENOUGH_BUDGET, SHORTLIST_TOO_MANY_NODES);
+    accepted("sixteen parts", WINDOW, 3, 2, "111");
+    run_of_twos(2, 2, 2);
+    accepted("sixteen parts, all inside", WINDOW, 4, 2, "0001");
+    built.length = 0;
+    sided(1, 0, 180, 1, 0, 0);
+    accepted("M 180", LATTICE, 0, 0, "");
+    built.length = 0;
+    sided(1, 0, 181, 1, 0, 0);
+    refused("M 181", LATTICE, 0, 0, SHORTLIST_TOO_MANY_NODES);
+}
+
 /* Every prefix of the Harbour log: only those that end with a record are read. */
 static void test_prefixes(void) {
     harbour();
@@ -316,6 +412,9 @@ int main(void) {
     test_harbour();
     test_value_outside();
     test_reading();
+    test_harbour_with_08();
+    test_reading_of_08();
+    test_parts();
     test_prefixes();
     test_nodes();
     test_marked_cases();

@@ -29,13 +29,19 @@ void number(Bytes &stream, std::int64_t value) {
         stream.push_back(static_cast<std::uint8_t>(static_cast<std::uint64_t>(value) >> shift));
 }
 
-Bytes harbour() {
+constexpr std::uint8_t AROUND = 3;
+constexpr std::uint8_t SIDED = 8;
+
+// The Harbour log with its density wish as AROUND, or as kind 08, which has two figures where AROUND has z.
+Bytes harbour(std::uint8_t kind) {
     Bytes stream{2, 1};
     for (auto figure : {0, 1000, 100})
         number(stream, figure);
-    stream.insert(stream.end(), {3, 2});
+    stream.insert(stream.end(), {kind, 2});
     for (auto figure : {1000, 1600, 50, 1250})
         number(stream, figure);
+    if (kind == SIDED)
+        number(stream, 1250);
     const std::array<std::array<int, 3>, 5> runs{{{800, 900, 1300}, {650, 1000, 1400}, {700, 850, 1250}, {720, 880, 1210}, {810, 900, 1270}}};
     for (const auto &run : runs) {
         stream.push_back(7);
@@ -86,20 +92,29 @@ void test_refusals(const Bytes &stream) {
     marks.assign(5, 9);
     check(call(shortlist_lattice, stream, marks, 148) == -SHORTLIST_BUDGET_SPENT, "budget 148");
     check(call(shortlist_window, stream, marks, 1025) == -SHORTLIST_BAD_BUFFER, "w 1,025");
+    check(call(shortlist_lattice, Bytes{9}, marks, 149) == -SHORTLIST_UNKNOWN_KIND, "unknown kind, lattice");
+    check(call(shortlist_window, Bytes{9}, marks, 4) == -SHORTLIST_UNKNOWN_KIND, "unknown kind, window");
     check(marks == Bytes(5, 9), "refused: marks unchanged");
 }
 
-} // namespace
-
-int main() {
-    const Bytes stream = harbour();
-    check(stream.size() == 197, "Harbour log has 197 bytes");
+void test_marks(const Bytes &stream) {
     Bytes marks(6, 9);
     check(call(shortlist_lattice, stream, marks, SHORTLIST_ENOUGH_BUDGET) == 4, "lattice");
     check(marks == Bytes{1, 1, 1, 0, 1, 9}, "lattice marks");
     marks.assign(6, 9);
     check(call(shortlist_window, stream, marks, 64) == 4, "window");
     check(marks == Bytes{1, 1, 1, 0, 1, 9}, "window marks");
+}
+
+} // namespace
+
+int main() {
+    const Bytes stream = harbour(AROUND);
+    const Bytes sided = harbour(SIDED);
+    check(stream.size() == 197, "Harbour log has 197 bytes");
+    check(sided.size() == 201, "Harbour log with kind 08 has 201 bytes");
+    test_marks(stream);
+    test_marks(sided);
     test_refusals(stream);
     test_empty();
     test_threads(stream);

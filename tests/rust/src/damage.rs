@@ -1,6 +1,7 @@
 //! Streams that went wrong on the way: bytes flipped, cut, doubled; records swapped, repeated, left out, put in.
 
 use crate::generate::any_record;
+use crate::model::reader::{LAYERED, NAMED, RUN};
 use crate::random::Random;
 use crate::records::{named, stream, Record};
 
@@ -45,7 +46,7 @@ fn in_records(random: &mut Random, records: &mut Vec<Record>) {
 
 /// Names after the first LAYERED, about as many as a list may hold.
 fn many_names(random: &mut Random, records: &mut Vec<Record>) {
-    let Some(at) = records.iter().position(|record| record[0] == 5) else { return };
+    let Some(at) = records.iter().position(|record| record[0] == LAYERED) else { return };
     for value in 0..random.between(55, 70) as i32 {
         records.insert(at + 1, named(value, random.pick(&[0, 0, 0, 0, 0, 0, 0, 0, 0, 0, 0, 0, 0, 0, 0, 1])));
     }
@@ -53,7 +54,8 @@ fn many_names(random: &mut Random, records: &mut Vec<Record>) {
 
 /// One of a record's numbers of four bytes becomes 0, the least, the greatest or nearly so.
 fn awkward_figure(random: &mut Random, record: &mut Record) {
-    let first = if record[0] < 6 { 2 } else { 1 };
+    // In a wish the column comes first.
+    let first = if [NAMED, RUN].contains(&record[0]) { 1 } else { 2 };
     let figures = (record.len() - first.min(record.len())) / 4;
     if figures == 0 {
         return;

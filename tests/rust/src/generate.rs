@@ -1,10 +1,17 @@
 //! Random streams that read: 1 to 8 wishes of all forms, M from 0 to 65,535, 0 to 64 names, 0 to 1,024 runs, mostly small.
 
+use crate::model::reader::{LAYERED, SIDED};
 use crate::random::Random;
-use crate::records::{around, between, highest, layered, lowest, named, numeric, run, Record};
+use crate::records::{around, between, highest, layered, lowest, named, numeric, run, sided, Record};
 
 const LEAST: i64 = i32::MIN as i64;
 const MOST: i64 = i32::MAX as i64;
+
+/// The kinds that the wishes of a list are drawn from.
+type Kinds = &'static [u8];
+const FIVE_FORMS: Kinds = &[1, 2, 3, 4, LAYERED];
+/// With lists of kind 08 alone, one in eight, it makes a fourth of all wishes.
+const SIX_FORMS: Kinds = &[1, 2, 3, 4, LAYERED, LAYERED, SIDED];
 
 /// A wish: its records, and values that runs may have in its column.
 struct Wished {
@@ -39,7 +46,18 @@ pub fn stream(random: &mut Random) -> Generated {
 }
 
 pub fn stream_of(random: &mut Random, rows: usize) -> Generated {
-    let wished = wish_list(random);
+    let kinds = if random.one_in(8) { &[SIDED] } else { SIX_FORMS };
+    stream_from(random, kinds, rows)
+}
+
+/// Any stream that reads and has no wish of kind 08: the bench's peers do not know it.
+pub fn stream_of_five_forms(random: &mut Random) -> Generated {
+    let rows = row_count(random);
+    stream_from(random, FIVE_FORMS, rows)
+}
+
+fn stream_from(random: &mut Random, kinds: Kinds, rows: usize) -> Generated {
+    let wished = wish_list(random, kinds);
     let mut runs = log(random, &wished, rows);
     if random.one_in(12) {
         put_outside(random, &wished, &mut runs);
@@ -55,35 +73,37 @@ fn row_count(random: &mut Random) -> usize {
     random.between(0, most) as usize
 }
 
-fn wish_list(random: &mut Random) -> Vec<Wished> {
+fn wish_list(random: &mut Random, kinds: Kinds) -> Vec<Wished> {
     let mut columns: Vec<u8> = (0..8).collect();
     random.shuffle(&mut columns);
     columns.truncate(random.pick(&[1, 2, 2, 2, 3, 3, 4, 5, 6, 7, 8]));
-    let most = greatest_level(random, columns.len() as u32);
+    let drawn: Vec<u8> = columns.iter().map(|_| random.pick(kinds)).collect();
+    let pairs = drawn.iter().filter(|kind| **kind == SIDED).count();
+    let most = greatest_level(random, columns.len() + pairs);
     let mut names_left = 64;
-    columns.into_iter().map(|column| wish(random, column, most, &mut names_left)).collect()
+    columns.into_iter().zip(drawn).map(|(column, kind)| wish(random, kind, column, most, &mut names_left)).collect()
 }
 
 /// Four streams of five get a lattice of about 2^bits nodes at most, the others any M.
-fn greatest_level(random: &mut Random, wishes: u32) -> i64 {
+fn greatest_level(random: &mut Random, parts: usize) -> i64 {
     if random.one_in(5) {
         return random.pick(&[12, 200, 5_000, 65_535]);
     }
     let most_bits = if random.one_in(8) { 15 } else { 10 };
     let bits = random.between(1, most_bits) as f64;
-    ((bits / f64::from(wishes)).exp2() as i64 - 1).max(1)
+    ((bits / parts as f64).exp2() as i64 - 1).max(1)
 }
 
-fn wish(random: &mut Random, column: u8, most: i64, names_left: &mut i64) -> Wished {
-    if random.one_in(4) {
+fn wish(random: &mut Random, kind: u8, column: u8, most: i64, names_left: &mut i64) -> Wished {
+    if kind == LAYERED {
         layered_wish(random, column, most, names_left)
     } else {
-        numeric_wish(random, column, most)
+        numeric_wish(random, kind, column, most)
     }
 }
 
 /// lo..hi is as wide as a level of at most `most` allows, often just so, and often at an end of what 32 bits hold.
-fn numeric_wish(random: &mut Random, column: u8, most: i64) -> Wished {
+fn numeric_wish(random: &mut Random, kind: u8, column: u8, most: i64) -> Wished {
     let top = if random.one_in(3) { most } else { random.between(0, most) };
     let step = random.pick(&[1, 1, 2, 3, 5, 50, 100, 1_000, 65_537, 1 << 31, u32::MAX]);
     let step = step.min(u32::MAX / (top.max(1) as u32));
@@ -96,11 +116,12 @@ fn numeric_wish(random: &mut Random, column: u8, most: i64) -> Wished {
     let hi = lo + width;
     let (low, up) = target(random, lo, hi);
     let at = |v: i64| v as i32;
-    let (record, low, up) = match random.below(4) {
-        0 => (lowest(column, at(lo), at(hi), step), lo, lo),
-        1 => (highest(column, at(lo), at(hi), step), hi, hi),
-        2 => (around(column, at(lo), at(hi), step, at(low)), low, low),
-        _ => (between(column, at(lo), at(hi), step, at(low), at(up)), low, up),
+    let (record, low, up) = match kind {
+        1 => (lowest(column, at(lo), at(hi), step), lo, lo),
+        2 => (highest(column, at(lo), at(hi), step), hi, hi),
+        3 => (around(column, at(lo), at(hi), step, at(low)), low, low),
+        4 => (between(column, at(lo), at(hi), step, at(low), at(up)), low, up),
+        _ => (sided(column, at(lo), at(hi), step, at(low), at(up)), low, up),
     };
     let pool = near_steps(random, lo, hi, i64::from(step), low, up);
     Wished { column, records: vec![record], lo, hi, pool }
@@ -200,6 +221,33 @@ pub fn mostly_best(random: &mut Random, rows: usize) -> Generated {
     Generated { wishes, runs }
 }
 
+/// The same with sixteen level parts, under eight wishes of kind 08: one run of five lies further out than another.
+pub fn mostly_best_of_pairs(random: &mut Random, rows: usize) -> Generated {
+    let wishes = (0..8).map(|column| sided(column, 80, 120, 1, 100, 100)).collect();
+    let mut runs: Vec<[i32; 8]> = vec![];
+    for _ in 0..rows {
+        let mut run = equal_sum(random);
+        if !runs.is_empty() && random.one_in(5) {
+            run = random.pick(&runs);
+            let value = &mut run[random.below(8) as usize];
+            *value = (*value + (*value - 100).signum()).clamp(80, 120);
+        }
+        runs.push(run);
+    }
+    random.shuffle(&mut runs);
+    Generated { wishes, runs }
+}
+
+/// Levels whose sum is 40, each above or below 100 by chance: no such run betters another.
+fn equal_sum(random: &mut Random) -> [i32; 8] {
+    let mut run = [0; 8];
+    for two in run.chunks_mut(2) {
+        two[0] = random.between(0, 10) as i32;
+        two[1] = 10 - two[0];
+    }
+    run.map(|level| if random.one_in(2) { 100 + level } else { 100 - level })
+}
+
 /// The longest stream that reads: 34,334 bytes.
 pub fn longest() -> Vec<u8> {
     let wishes: Vec<u8> = (0..7).flat_map(|column| between(column, -9, 9, 1, 0, 0)).collect();
@@ -215,7 +263,7 @@ pub fn too_long() -> Vec<(Vec<u8>, i32)> {
     let longest = longest();
     let after = |rest: &[u8]| [&longest, rest].concat();
     let a_run = run(&[0; 8]);
-    let mut streams = vec![(after(&a_run), 7), (after(&a_run[..32]), 4), (after(&[7]), 4), (after(&[1]), 3), (after(&[8]), 2)];
+    let mut streams = vec![(after(&a_run), 7), (after(&a_run[..32]), 4), (after(&[7]), 4), (after(&[1]), 3), (after(&[8]), 3), (after(&[9]), 2)];
     for length in [65_535, 65_536, 65_537, 70_000, 300_000] {
         let rest = length - longest.len();
         streams.push((after(&vec![7; rest]), 7));
@@ -230,11 +278,11 @@ pub fn too_long() -> Vec<(Vec<u8>, i32)> {
 pub fn any_record(random: &mut Random) -> Record {
     let column = random.below(10) as u8;
     let figure = |random: &mut Random| random.pick(&[0, 1, -1, 5, 100, i32::MIN, i32::MAX]);
-    match random.below(8) {
+    match random.below(9) {
         0 => {
             let figures = [figure(random), figure(random), figure(random), figure(random), figure(random)];
-            let kind = random.between(1, 4) as u8;
-            numeric(kind, column, &figures[..[3, 3, 4, 5][usize::from(kind) - 1]])
+            let (kind, count) = random.pick(&[(1, 3), (2, 3), (3, 4), (4, 5), (SIDED, 5)]);
+            numeric(kind, column, &figures[..count])
         }
         1 => lowest(column, 0, random.pick(&[3, 255, 65_535]), 1),
         2 => around(column, -2, 2, 1, 0),
@@ -242,6 +290,7 @@ pub fn any_record(random: &mut Random) -> Record {
         4 => layered(column, random.below(18) as u8, random.below(4) as u8),
         5 => named(figure(random), random.below(6) as u8),
         6 => run(&std::array::from_fn(|_| random.between(0, 3) as i32)),
+        7 => sided(column, -2, 9, 2, 1, 2),
         _ => vec![random.bits() as u8],
     }
 }

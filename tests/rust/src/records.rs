@@ -6,7 +6,8 @@ pub fn stream(records: &[Record]) -> Vec<u8> {
     records.concat()
 }
 
-/// A record of a kind with a column and numbers of four bytes: LOWEST, HIGHEST, AROUND, BETWEEN. A step above 2^31 is given as its bits.
+/// A record of a kind with a column and numbers of four bytes: LOWEST, HIGHEST, AROUND, BETWEEN, kind 08. A step above 2^31 is given as its
+/// bits.
 pub fn numeric(kind: u8, column: u8, figures: &[i32]) -> Record {
     let mut record = vec![kind, column];
     figures.iter().for_each(|figure| record.extend(figure.to_le_bytes()));
@@ -27,6 +28,11 @@ pub fn around(column: u8, lo: i32, hi: i32, step: u32, z: i32) -> Record {
 
 pub fn between(column: u8, lo: i32, hi: i32, step: u32, low: i32, up: i32) -> Record {
     numeric(4, column, &[lo, hi, step as i32, low, up])
+}
+
+/// Kind 08: BETWEEN's body.
+pub fn sided(column: u8, lo: i32, hi: i32, step: u32, low: i32, up: i32) -> Record {
+    numeric(8, column, &[lo, hi, step as i32, low, up])
 }
 
 pub fn layered(column: u8, top: u8, others: u8) -> Record {
@@ -56,7 +62,16 @@ pub fn row(values: &[i32]) -> Record {
 
 /// The Harbour log of document 01.
 pub fn harbour() -> Vec<Record> {
-    let mut records = vec![highest(1, 0, 1_000, 100), around(2, 1_000, 1_600, 50, 1_250)];
+    harbour_with(around(2, 1_000, 1_600, 50, 1_250))
+}
+
+/// The same with kind 08 in place of AROUND.
+pub fn harbour_sided() -> Vec<Record> {
+    harbour_with(sided(2, 1_000, 1_600, 50, 1_250, 1_250))
+}
+
+fn harbour_with(density: Record) -> Vec<Record> {
+    let mut records = vec![highest(1, 0, 1_000, 100), density];
     for (hours, cubic_metres, density) in [(800, 900, 1_300), (650, 1_000, 1_400), (700, 850, 1_250), (720, 880, 1_210), (810, 900, 1_270)] {
         records.push(run(&[hours, cubic_metres, density, 0, 0, 0, 0, 0]));
     }

@@ -1,7 +1,7 @@
 //! How many calls ended with which number, so that a reader sees that each was tried.
 
-use crate::model::levels;
 use crate::model::reader::{Form, Input};
+use crate::model::{lattice, levels};
 use std::fmt;
 
 #[derive(Default)]
@@ -58,14 +58,18 @@ pub struct Extent {
     pub names: (usize, usize),
     pub runs: (usize, usize),
     pub top: (usize, usize),
-    /// LOWEST, HIGHEST, AROUND, BETWEEN, LAYERED: how many of each.
-    pub forms: [u64; 5],
+    /// Level parts.
+    pub parts: (usize, usize),
+    /// How many had more parts than there can be wishes, and a lattice.
+    pub wide_lattices: u64,
+    /// LOWEST, HIGHEST, AROUND, BETWEEN, LAYERED, kind 08: how many of each.
+    pub forms: [u64; 6],
 }
 
 impl Default for Extent {
     fn default() -> Self {
         let none = (usize::MAX, 0);
-        Extent { wishes: none, names: none, runs: none, top: none, forms: [0; 5] }
+        Extent { wishes: none, names: none, runs: none, top: none, parts: none, wide_lattices: 0, forms: [0; 6] }
     }
 }
 
@@ -74,6 +78,9 @@ impl Extent {
         widen(&mut self.wishes, input.wishes.len());
         widen(&mut self.names, input.named.len());
         widen(&mut self.runs, input.runs.len());
+        let tops = levels::tops(input);
+        widen(&mut self.parts, tops.len());
+        self.wide_lattices += u64::from(tops.len() > 8 && lattice::nodes(&tops).is_some());
         for wish in &input.wishes {
             widen(&mut self.top, levels::greatest(&wish.form) as usize);
             self.forms[form(&wish.form)] += 1;
@@ -92,5 +99,6 @@ fn form(form: &Form) -> usize {
         Form::Around { .. } => 2,
         Form::Between { .. } => 3,
         Form::Layered { .. } => 4,
+        Form::Sided { .. } => 5,
     }
 }

@@ -1,10 +1,11 @@
-//! The model against figures that were not computed by it: documents 000 and 003, document 01's marked cases, order 1 of document 02.
+//! The model against figures that were not computed by it: documents 000 and 003, document 01's marked cases, orders 1 and 2 of document 02.
 
 use flat_calls::model::flat::{facts, program};
 use flat_calls::model::reader::{read, Form, Input, Refusal};
 use flat_calls::model::{best, lattice, levels, machine, sheet};
 use flat_calls::random::Random;
 use flat_calls::records::*;
+use std::collections::BTreeSet;
 
 fn input(records: &[Record]) -> Input {
     read(&stream(records)).expect("it reads")
@@ -91,12 +92,14 @@ fn greatest_levels_by_trying_every_value() {
         let (lo, step) = (random.between(-60, 60) as i32, random.between(1, 9) as u32);
         let hi = lo + random.between(0, 60) as i32;
         let (a, b) = (random.between(lo.into(), hi.into()) as i32, random.between(lo.into(), hi.into()) as i32);
-        let forms = [lowest(0, lo, hi, step), highest(0, lo, hi, step), around(0, lo, hi, step, a), between(0, lo, hi, step, a.min(b), a.max(b))];
+        let (low, up) = (a.min(b), a.max(b));
+        let forms = [lowest(0, lo, hi, step), highest(0, lo, hi, step), around(0, lo, hi, step, a), between(0, lo, hi, step, low, up)];
         for form in forms {
             let values: Vec<i32> = (lo..=hi).collect();
             let all = levels_under(std::slice::from_ref(&form), &values);
             assert_eq!(tops(&[form]), [*all.iter().max().unwrap()]);
         }
+        assert_eq!(tops(&[sided(0, lo, hi, step, low, up)]), [tops(&[between(0, lo, hi, step, low, up)])[0]; 2]);
     }
 }
 
@@ -251,6 +254,92 @@ fn the_harbour_log() {
     assert_eq!(program(&bytes), "runs 5 best 4\n0 800 900\n1 650 1000\n2 700 850\n4 810 900\n");
 }
 
+/// The pair of each value under a wish of kind 08.
+fn pairs_under(wish: &Record, values: &[i32]) -> Vec<Vec<u32>> {
+    let input = input(std::slice::from_ref(wish));
+    values.iter().map(|value| levels::parts(&input, 0, *value)).collect()
+}
+
+/// Document 02, order 2: Table 4 of 003 and Table 4.1 of 000, in thousands.
+#[test]
+fn pairs_of_kind_08() {
+    let price = sided(0, 45, 75, 5, 50, 50);
+    assert_eq!(pairs_under(&price, &[45, 50, 55, 70, 75]), table(&[&[0, 1], &[0, 0], &[1, 0], &[4, 3], &[5, 4]]));
+    assert_eq!(pairs_under(&price, &[50, 70, 75, 55, 45, 45]), table(&[&[0, 0], &[4, 3], &[5, 4], &[1, 0], &[0, 1], &[0, 1]]));
+    assert_eq!(levels_under(std::slice::from_ref(&price), &[45, 50, 55, 70, 75]), [1, 0, 1, 4, 5]);
+    assert_eq!(tops(&[price]), [5, 5]);
+    let inside = sided(0, 50, 95, 5, 60, 80);
+    assert_eq!(pairs_under(&inside, &[50, 59, 60, 80, 81, 95]), table(&[&[1, 2], &[0, 1], &[0, 0], &[0, 0], &[1, 0], &[3, 2]]));
+    let ends = sided(0, i32::MIN, i32::MAX, 65_537, i32::MIN, i32::MIN);
+    assert_eq!(pairs_under(&ends, &[i32::MIN, 0, i32::MAX]), table(&[&[0, 0], &[32_768, 32_767], &[65_535, 65_534]]));
+    let ends = sided(0, i32::MIN, i32::MAX, 65_537, i32::MAX, i32::MAX);
+    assert_eq!(pairs_under(&ends, &[i32::MIN, 0, i32::MAX]), table(&[&[65_534, 65_535], &[32_767, 32_768], &[0, 0]]));
+}
+
+/// 000 Example 20, Lemmas 10 and 11: with M 5 a pair has 36 nodes, and values that reach M on both sides hold 11 of them.
+#[test]
+fn nodes_of_a_pair() {
+    assert_eq!(lattice::nodes(&tops(&[sided(0, 45, 75, 5, 50, 50)])), Some(36));
+    let both_sides = sided(0, 25, 75, 5, 50, 50);
+    assert_eq!(lattice::nodes(&tops(std::slice::from_ref(&both_sides))), Some(36));
+    let values: Vec<i32> = (25..=75).collect();
+    let held: BTreeSet<usize> = pairs_under(&both_sides, &values).iter().map(|pair| lattice::node(&[5, 5], pair)).collect();
+    assert_eq!(held.len(), 11);
+    let alone = |top| lattice::nodes(&tops(&[sided(0, 0, top, 1, 0, 0)]));
+    assert_eq!((alone(180), alone(181)), (Some(32_761), None));
+}
+
+/// "in lattice, node number and betterment": (0,3,2) is node 26, as (0,3) is node 3 without kind 08.
+#[test]
+fn the_harbour_log_with_kind_08() {
+    let bytes = stream(&harbour_sided());
+    assert_eq!(bytes.len(), 201);
+    let harbour = input(&harbour_sided());
+    let (tops, log) = (levels::tops(&harbour), levels::of_log(&harbour));
+    assert_eq!(tops, [10, 7, 7]);
+    assert_eq!(log, table(&[&[1, 1, 0], &[0, 3, 2], &[2, 0, 0], &[2, 0, 1], &[1, 1, 0]]));
+    let held: Vec<usize> = log.iter().map(|row| lattice::node(&tops, row)).collect();
+    assert_eq!(held, [72, 26, 128, 129, 72]);
+    let bytes_of_nodes = lattice::bytes(&tops, &log);
+    assert_eq!(bytes_of_nodes.len(), 704);
+    assert_eq!((lattice::crossings(&tops, &bytes_of_nodes), lattice::bound(&tops)), (1_752, 1_872));
+    assert_eq!([1, 4].map(|w| machine::run(&log, w).compares), [9, 9]);
+    assert_eq!(best::marks(&log), [1, 1, 1, 0, 1]);
+    assert_eq!(program(&bytes), "runs 5 best 4\n0 800 900\n1 650 1000\n2 700 850\n4 810 900\n");
+}
+
+/// "A density 50 under the target and one 50 over it need different handling, so mates want both listed."
+#[test]
+fn too_thin_is_not_too_thick() {
+    let runs = [row(&[900, 1_200]), row(&[800, 1_300])];
+    let under = |wishes: &[Record]| marks(&[wishes, &runs].concat());
+    assert_eq!(under(&harbour()[..2]), [1, 0]);
+    assert_eq!(under(&harbour_sided()[..2]), [1, 1]);
+}
+
+/// At most 32,768 nodes have at most 245,760 edges: with fifteen parts of M 1.
+#[test]
+fn the_most_crossings() {
+    let mut wishes: Vec<Record> = (1..8).map(|column| sided(column, 0, 1, 1, 0, 0)).collect();
+    wishes.push(lowest(0, 0, 1, 1));
+    let tops = tops(&wishes);
+    assert_eq!((tops.len(), lattice::nodes(&tops), lattice::bound(&tops)), (15, Some(32_768), 245_760));
+    assert_eq!(lattice::crossings(&tops, &lattice::bytes(&tops, &[vec![0; 15]])), 245_760);
+}
+
+/// Below at level L betters above at level L' exactly when L' is above L, and the other way round; inside betters all others.
+#[test]
+fn sides_against_each_other() {
+    let wish = sided(0, -9, 9, 1, 0, 0);
+    for a in -9i32..=9 {
+        for b in -9i32..=9 {
+            let pairs = pairs_under(&wish, &[a, b]);
+            assert_eq!(best::betters(&pairs[0], &pairs[1]), a.abs() < b.abs(), "{a} and {b}");
+            assert_eq!(pairs[0] == pairs[1], a == b, "{a} and {b}");
+        }
+    }
+}
+
 #[test]
 fn small_logs_that_tell_machines_apart() {
     let compares = |rows: &[&[u32]], w| machine::run(&table(rows), w).compares;
@@ -271,7 +360,9 @@ fn small_logs_that_tell_machines_apart() {
 fn two_ways_give_the_same() {
     let mut random = Random::new(2);
     for _ in 0..2_000 {
-        let tops: Vec<u32> = (0..random.between(1, 4)).map(|_| random.below(4) as u32).collect();
+        // Few parts with up to four levels each, or more parts than a list has wishes.
+        let (parts, levels) = if random.one_in(4) { (random.between(9, 11), 2) } else { (random.between(1, 4), 4) };
+        let tops: Vec<u32> = (0..parts).map(|_| random.below(levels) as u32).collect();
         let count = random.below(8);
         let rows: Vec<Vec<u32>> = (0..count).map(|_| tops.iter().map(|top| random.below(u64::from(*top) + 1) as u32).collect()).collect();
         assert_eq!(lattice::bytes(&tops, &rows), lattice::bytes_node_by_node(&tops, &rows));
@@ -302,12 +393,14 @@ fn the_shift_sheet() {
 
 #[test]
 fn figures_that_are_read() {
-    let records = [between(3, -1, 260, 70_000, 0, 5), layered(0, 15, 14), named(-2, 13)];
+    let records = [between(3, -1, 260, 70_000, 0, 5), layered(0, 15, 14), named(-2, 13), sided(7, -3, 300, 9, -2, 4)];
     let read = input(&records);
     let Form::Between { range, low, up } = read.wishes[0].form else { panic!("BETWEEN") };
     assert_eq!((read.wishes[0].column, range.lo, range.hi, range.step, low, up), (3, -1, 260, 70_000, 0, 5));
     assert_eq!(read.wishes[1].form, Form::Layered { top: 15, others: 14 });
     assert_eq!((read.named[0].wish, read.named[0].value, read.named[0].layer), (1, -2, 13));
+    let Form::Sided { range, low, up } = read.wishes[2].form else { panic!("kind 08") };
+    assert_eq!((read.wishes[2].column, range.lo, range.hi, range.step, low, up), (7, -3, 300, 9, -2, 4));
 }
 
 /// Number and place of a refusal: where the record begins, or the stream's length.
@@ -321,6 +414,9 @@ fn places_of_refusals() {
         (after(&[0]), 2, 197),
         (after(&[7]), 4, 197),
         (after(&[1]), 3, 197),
+        (after(&[8]), 3, 197),
+        (vec![8], 4, 0),
+        ([sided(0, 0, 9, 1, 4, 5), named(0, 0)].concat(), 3, 22),
         (vec![6, 0, 0, 0, 0, 0], 3, 0),
         (vec![5, 0], 4, 0),
         (vec![5, 8, 1, 0], 5, 0),

@@ -1,7 +1,7 @@
 //! The program `shortlist`: what it prints for a few hundred streams, byte for byte against the model's text.
 
 use flat_calls::damage::damage;
-use flat_calls::generate::{longest, mostly_best, stream, stream_of, too_long};
+use flat_calls::generate::{longest, mostly_best, mostly_best_of_pairs, stream, stream_of, too_long};
 use flat_calls::model::flat::program as expected;
 use flat_calls::programs::{Answers, Pace, Program, ALL_ANSWERS, AT_ONCE};
 use flat_calls::random::{Random, SEED};
@@ -22,6 +22,15 @@ fn check_in_pieces(input: &[u8], piece: usize, pause: Duration) {
 fn the_harbour_log() {
     let text = check(&harbour().concat());
     assert_eq!(text, "runs 5 best 4\n0 800 900\n1 650 1000\n2 700 850\n4 810 900\n");
+}
+
+/// Document 02, order 2: a run 50 under the target and one 50 over it, of which the second brought less.
+#[test]
+fn too_thin_is_not_too_thick() {
+    assert_eq!(check(&harbour_sided().concat()), "runs 5 best 4\n0 800 900\n1 650 1000\n2 700 850\n4 810 900\n");
+    let runs = [row(&[900, 1_200]), row(&[800, 1_300])].concat();
+    assert_eq!(check(&[harbour()[..2].concat(), runs.clone()].concat()), "runs 2 best 1\n0 1 900\n");
+    assert_eq!(check(&[harbour_sided()[..2].concat(), runs].concat()), "runs 2 best 2\n0 1 900\n1 1 800\n");
 }
 
 #[test]
@@ -60,6 +69,15 @@ fn too_many_nodes() {
     }
     let outside = [lowest(1, 0, 60_000, 1), row(&[60_001])].concat();
     assert_eq!(check(&outside), "refused 8\n");
+    // Kind 08 with M 181 has 33,124 nodes, with M 180 few enough.
+    for top in [180, 181] {
+        let bytes = [sided(1, -top, top, 1, 0, 0), row(&[-top]), row(&[top]), row(&[-top])].concat();
+        assert_eq!(check(&bytes), format!("runs 3 best 3\n0 1 -{top}\n1 1 {top}\n2 1 -{top}\n"));
+    }
+    for rows in [63, 64, 65, 1_024] {
+        let text = check(&mostly_best_of_pairs(&mut random, rows).stream());
+        assert!(text.starts_with(&format!("runs {rows} best ")), "{text}");
+    }
 }
 
 #[test]

@@ -2,7 +2,7 @@
 //! hold the shortlisted runs.
 
 use flat_calls::damage::damage;
-use flat_calls::generate::{longest, mostly_best, stream, stream_of, too_long};
+use flat_calls::generate::{longest, mostly_best, mostly_best_of_pairs, stream, stream_of, too_long};
 use flat_calls::model::flat::{facts, sheet as expected};
 use flat_calls::programs::{Answers, Pace, Program, ALL_ANSWERS, AT_ONCE};
 use flat_calls::random::{Random, SEED};
@@ -112,13 +112,14 @@ fn sheet_of_the_harbour_log() {
 ";
     assert_eq!(text, format!("{HEADING}{rows}"));
     assert_eq!(text.len(), 612);
+    assert_eq!(check(&harbour_sided().concat()), text, "kind 08 in place of AROUND lists the same runs");
 }
 
 /// "An empty shortlist still gives one page."
 #[test]
 fn sheet_without_runs() {
     let many_nodes = [lowest(1, 0, 60_000, 1), lowest(2, 0, 60_000, 1)].concat();
-    for wishes in [layered(7, 1, 1), between(0, -9, 9, 1, 0, 0), harbour()[..2].concat(), many_nodes] {
+    for wishes in [layered(7, 1, 1), between(0, -9, 9, 1, 0, 0), harbour()[..2].concat(), harbour_sided()[..2].concat(), many_nodes] {
         let text = check(&wishes);
         assert_eq!(text, format!("{HEADING}{:90}PAGE 1 OF 1\n", ""));
         assert_eq!(text.len(), 204);
@@ -281,6 +282,7 @@ fn sheets_without_a_lattice() {
         let mut generated = mostly_best(&mut random, rows);
         generated.wishes.push(lowest(3, 0, 60_000, 1));
         assert!(check(&generated.stream()).starts_with(HEADING), "{rows} runs");
+        assert!(check(&mostly_best_of_pairs(&mut random, rows).stream()).starts_with(HEADING), "{rows} runs, sixteen level parts");
     }
     assert_eq!(check(&[lowest(1, 0, 60_000, 1), row(&[60_001])].concat()), "refused 8\n");
 }

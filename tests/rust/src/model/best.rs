@@ -1,4 +1,4 @@
-//! Which rows no row betters: the nested loop.
+//! Which rows no row betters: the nested loop. Rows are lists of level parts.
 
 /// "Row a betters row b when no level of a is above b's and one is below."
 pub fn betters(a: &[u32], b: &[u32]) -> bool {

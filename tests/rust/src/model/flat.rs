@@ -8,7 +8,8 @@ pub struct Facts {
     pub rows: usize,
     /// Number 8 is due; the levels are not asked for then.
     pub outside: bool,
-    pub levels: Vec<Vec<u32>>,
+    /// The level parts of each row.
+    pub parts: Vec<Vec<u32>>,
     /// From the nested loop.
     pub marks: Vec<u8>,
     pub best: i32,
@@ -21,12 +22,12 @@ pub struct Facts {
 pub fn facts(stream: &[u8]) -> Result<Facts, i32> {
     let input = reader::read(stream).map_err(|refusal| refusal.number)?;
     let outside = levels::any_outside(&input);
-    let levels = if outside { vec![] } else { levels::of_log(&input) };
-    let marks = best::marks(&levels);
+    let parts = if outside { vec![] } else { levels::of_log(&input) };
+    let marks = best::marks(&parts);
     let best = marks.iter().map(|mark| i32::from(*mark)).sum();
     let tops = levels::tops(&input);
-    let crossings = lattice::nodes(&tops).map(|_| lattice::crossings(&tops, &lattice::bytes(&tops, &levels)));
-    Ok(Facts { rows: input.runs.len(), outside, levels, marks, best, crossings, input })
+    let crossings = lattice::nodes(&tops).map(|_| lattice::crossings(&tops, &lattice::bytes(&tops, &parts)));
+    Ok(Facts { rows: input.runs.len(), outside, parts, marks, best, crossings, input })
 }
 
 impl Facts {
@@ -53,7 +54,7 @@ impl Facts {
 
     /// The machine's result, as marks. It has to be the nested loop's; the trials see to that.
     pub fn machine_marks(&self, w: u32) -> Vec<u8> {
-        machine::marks(self.rows, &machine::run(&self.levels, w as usize).result)
+        machine::marks(self.rows, &machine::run(&self.parts, w as usize).result)
     }
 }
 

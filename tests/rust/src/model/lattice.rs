@@ -1,4 +1,5 @@
-//! "Lattice engine": nodes, edges, crossings and node bytes. `tops` is the M of each wish.
+//! "Lattice engine": nodes, edges, crossings and node bytes. `tops` is the M of each level part: a part of a pair counts "in lattice, node
+//! number and betterment like a wish's level" (order 2).
 
 use super::best::betters;
 
@@ -16,7 +17,7 @@ pub fn nodes(tops: &[u32]) -> Option<usize> {
     usize::try_from(product).ok()
 }
 
-/// How much one level of each wish adds to a node's number: "the first wish as highest digit, in bases M + 1".
+/// How much one level of each part adds to a node's number: "the first wish as highest digit, in bases M + 1".
 pub fn weights(tops: &[u32]) -> Vec<usize> {
     let mut weights = vec![1; tops.len()];
     for i in (1..tops.len()).rev() {
@@ -40,7 +41,7 @@ fn edges<'a>(tops: &'a [u32], weights: &'a [usize], node: usize) -> impl Iterato
 }
 
 /// "each node's byte is 0 unreached, 1 held and not bettered, 2 bettered and not held, 3 both": whatever lies further along edges
-/// from a held node is bettered by it. `rows` are level lists; there are at most 32,768 nodes.
+/// from a held node is bettered by it. `rows` are lists of level parts; there are at most 32,768 nodes.
 pub fn bytes(tops: &[u32], rows: &[Vec<u32>]) -> Vec<u8> {
     let weights = weights(tops);
     let mut bytes = vec![0; nodes(tops).expect("few nodes")];

@@ -1,10 +1,11 @@
-//! "Runs and records", and how reading checks ("When a number comes back").
+//! "Runs and records", and how reading checks ("When a number comes back"). Kind 08 is order 2's.
 
 use super::levels;
 
 pub const LAYERED: u8 = 5;
 pub const NAMED: u8 = 6;
 pub const RUN: u8 = 7;
+pub const SIDED: u8 = 8;
 
 /// "column, lo, hi, step": step is unsigned, the others signed.
 #[derive(Clone, Copy, Debug, PartialEq, Eq)]
@@ -14,7 +15,7 @@ pub struct Range {
     pub step: u32,
 }
 
-/// "one of five forms, each with its own figures"
+/// "one of five forms, each with its own figures"; kind 08 "has BETWEEN's body" and tells a value below low..up from one above.
 #[derive(Clone, Copy, Debug, PartialEq, Eq)]
 pub enum Form {
     Lowest(Range),
@@ -22,6 +23,7 @@ pub enum Form {
     Around { range: Range, z: i32 },
     Between { range: Range, low: i32, up: i32 },
     Layered { top: u8, others: u8 },
+    Sided { range: Range, low: i32, up: i32 },
 }
 
 #[derive(Clone, Copy, Debug, PartialEq, Eq)]
@@ -90,7 +92,7 @@ fn body_bytes(kind: u8) -> Option<usize> {
     match kind {
         1 | 2 => Some(13),
         3 => Some(17),
-        4 => Some(21),
+        4 | SIDED => Some(21),
         LAYERED => Some(3),
         NAMED => Some(5),
         RUN => Some(32),
@@ -132,7 +134,8 @@ fn form(kind: u8, body: &[u8]) -> Form {
         1 => Form::Lowest(range),
         2 => Form::Highest(range),
         3 => Form::Around { range, z: signed(body, 13) },
-        _ => Form::Between { range, low: signed(body, 13), up: signed(body, 17) },
+        4 => Form::Between { range, low: signed(body, 13), up: signed(body, 17) },
+        _ => Form::Sided { range, low: signed(body, 13), up: signed(body, 17) },
     }
 }
 
@@ -143,7 +146,7 @@ fn figures_fit(form: &Form) -> bool {
     match form {
         Form::Lowest(range) | Form::Highest(range) => sound(range),
         Form::Around { range, z } => sound(range) && inside(range, *z),
-        Form::Between { range, low, up } => sound(range) && inside(range, *low) && inside(range, *up) && low <= up,
+        Form::Between { range, low, up } | Form::Sided { range, low, up } => sound(range) && inside(range, *low) && inside(range, *up) && low <= up,
         Form::Layered { top, others } => (1..=15).contains(top) && others <= top,
     }
 }
