@@ -1,4 +1,4 @@
-use mathlib.Core.Path.{_≡_, sym, ap, _∙_}
+use mathlib.Core.Path.{_≡_, sym, _∙_}
 use mathlib.Core.List.{List}
 use Prim.Native.Nat.{ℕ, _≤_}
 use native.Mathlib.Omega.{arith}
@@ -40,6 +40,10 @@ module _ (e : tie.After-row-count) where
       competing-front (logOf (start .args .log .now)) _ rows (d .competing-rows .result)
       (omega (arith, start .pre .0 .few, length-replicate {A = ℕ} 1024 0)) (d .competing-rows .ensures .0) (d .competing-rows .ensures .1)
 
+same : {t t′ rows rows′ : List ℕ} {none none′ : ℕ} → t ≡ t′ → rows ≡ rows′ → none ≡ none′ → (row : ℕ)
+    → firstOf (bestBeats t rows row) rows none ≡ firstOf (bestBeats t′ rows′ row) rows′ none′
+same e f g row = rw (e, f, g)
+
 slice-aggregate-competing-rows : tie.Need-slice-aggregate-competing-rows
 slice-aggregate-competing-rows c = search needs
 
@@ -62,10 +66,9 @@ returns : tie.Need-returns
 returns c =
     let d = c .before .before in
     let s = start d in
-    let listed = take (d .before .before .competing-rows .result) (rows d) in
     c .first-dominator .ensures
-    ∙ ap (λ (none : ℕ). firstOf (bestBeats (s .args .table .now) listed (s .args .row)) listed none) (d .row-count .ensures)
-    ∙ rw (s .pre .1, rows-are d) (first-in-table (s .args .list) (logOf (s .args .log .now)) (s .args .row) (s .pre .0))
+    ∙ same (s .pre .1) (rows-are d) (d .row-count .ensures) (s .args .row)
+    ∙ first-in-table (s .args .list) (logOf (s .args .log .now)) (s .args .row) (s .pre .0)
 
 pub first-in-table-spec : {M : Type 1} → statement M
 first-in-table-spec =
