@@ -1,4 +1,5 @@
--- Document 02, order 2: the side on which a value lies, and the pair of levels of kind 08 (000, Theorem 16; 003, Table 4).
+-- Document 02, order 2: the side on which a value lies, and the pair of levels of kind 08 (000, Theorem 16; 003,
+-- Table 4).
 use Prim.Native.Nat.{ℕ, _-_}
 use mathlib.Core.Bool.{Bool, true, false, cond}
 use mathlib.Core.List.{List, [], _∷_}

@@ -63,7 +63,8 @@ module _ (l : PreferenceList) (log : Log) where
 
   -- "Each accepted call of the lattice engine returns the number of crossings that it made: it equals the number of
   -- edges that leave reached nodes, at most the sum over the wishes of nodes × M/(M+1), M being the wish's greatest
-  -- level."
+  -- level." Document 02, order 2: "Best-match choice, engine agreement and both count limits are over all level parts";
+  -- `latticeTops` has the M of each part.
   pub lattice-count : (marks marks′ : List ℕ) (nodes budget count : ℕ)
       → Leaves (latticeCall l log (length marks) nodes budget) marks (accepted count) marks′
       → (count ≡ crossings (latticeTops l) (latticeRows l log)) × (count ≤ bound (latticeTops l))

@@ -7,9 +7,10 @@ use Rattle.laws.specs.Outcome.{outcome}
 use Rattle.arith.specs.Gap.{gap}
 use Rattle.arith.specs.Ceil.{ceilDiv}
 use Rattle.constructor.specs.Level.{distance, inside, maxLevel}
+use Rattle.constructor.specs.Side.{sideBy, sideOf, partsOf, topsOf}
 use Rattle.constructor.specs.Valid.{sound, constructorRefusal, layerRefusal}
 use Rattle.preference.specs.Valid.{columnRefusal, preferenceRefusal, namedRefusal, listRefusal}
-use Rattle.preference.specs.Level.{layerOf, levelAt, maxAt, valueRefusal, levelRefusal}
+use Rattle.preference.specs.Level.{layerOf, levelAt, sideAt, maxAt, valueRefusal, levelRefusal}
 use Rattle.preference.specs.Parts.{levels, maxLevels, rowRefusal}
 use Rattle.laws.specs.Lists.{joined, anyOf}
 use Rattle.log.specs.Log.{logRefusal}
@@ -39,7 +40,7 @@ each (c ∷ cs) e = (cc, each cs (cc))
 pub marked-cases : Each cases
 unfolding answers expected answer outcome _gives_ _then_ firstAt anyBelow firstRefusal gap ceilDiv distance inside
     maxLevel sound constructorRefusal layerRefusal columnRefusal preferenceRefusal namedRefusal listRefusal layerOf
-    levelAt maxAt valueRefusal levelRefusal levels maxLevels rowRefusal joined anyOf logRefusal noneAbove someBelow
+    levelAt sideAt sideBy sideOf partsOf topsOf maxAt valueRefusal levelRefusal levels maxLevels rowRefusal joined anyOf logRefusal noneAbove someBelow
     dominates competes competing vectorAt rowDominates isBest marksOf rowsRefusal checkedRefusal nodeCount nodeId
     levelsOf held dominatedNode reached edgesFrom edges crossedAt crossings boundFrom bound latticeTops latticeRow
     latticeRows latticeRefusal sizesRefusal windowRefusal machineOf machines.keep machines.marked machines.older

@@ -5,7 +5,8 @@ use mathlib.Core.Path.{_≡_}
 use lib.IntN.{ℤ}
 use Rattle.laws.specs.Outcome.{Outcome, outcome}
 use Rattle.log.specs.Log.{Log}
-use Rattle.preference.specs.Level.{levelRefusal, levelAt, maxAt}
+use Rattle.preference.specs.Level.{Told, toldAt, levelRefusal, maxAt}
+use Rattle.preference.specs.Parts.{levels}
 use Rattle.pareto.specs.Best.{marksOf}
 use Rattle.lattice_nodes.specs.Lattice.{nodeCount, crossings, bound}
 use Rattle.lattice.specs.Walked.{latticeTops, latticeRows}
@@ -14,8 +15,10 @@ use Rattle.window.specs.Engine.{windowRefusal, machineOf}
 use Rattle.preference.specs.declared.PreferenceList.{PreferenceList}
 
 pub data Question : Type 0 where
-  -- the level of a value under the preference at a place
+  -- the level of a value under the preference at a place, and its side
   levelAsked : PreferenceList → ℕ → ℤ → Question
+  -- the level parts of a value under the one preference of a list, in its column
+  partsAsked : PreferenceList → List ℤ → Question
   -- M of the preference at a place
   maxAsked : PreferenceList → ℕ → Question
   -- the marks of a log
@@ -31,11 +34,13 @@ pub data Question : Type 0 where
 
 pub data Answer : Type 0 where
   ends : Outcome ℕ → Answer
+  tells : Outcome Told → Answer
   figure : ℕ → Answer
   figures : List ℕ → Answer
 
 unfoldable pub answer : Question → Answer
-answer (levelAsked l i v) = ends (outcome (levelRefusal l i v) (levelAt l i v))
+answer (levelAsked l i v) = tells (outcome (levelRefusal l i v) (toldAt l i v))
+answer (partsAsked l row) = figures (levels l row)
 answer (maxAsked l i) = figure (maxAt l i)
 answer (marksAsked l log) = figures (marksOf l log)
 answer (machineAsked l log w) = figures (machineOf l log w .marks)

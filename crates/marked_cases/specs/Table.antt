@@ -1,4 +1,4 @@
--- Document 01, "Harbour log and marked cases": the table.
+-- Document 01, "Harbour log and marked cases": the table, with the sides and the pairs of document 02, order 2.
 use Prim.Native.Nat.{ℕ, _+_, _-_, _*_}
 use mathlib.Core.List.{List, [], _∷_, _++_}
 use lib.IntN.{ℤ, pos, negsuc}
@@ -7,12 +7,15 @@ use Rattle.laws.specs.Outcome.{accepted, refused}
 use Rattle.log.specs.Log.{Log, logOf}
 use Rattle.constructor.specs.declared.Constructor.{Constructor}
 use Rattle.constructor.specs.declared.Constructor.the-variants.{Lowest, Highest, Around, Between, Layered}
+use Rattle.constructor.specs.declared.Constructor.the-variants.{BetweenTrivial}
+use Rattle.constructor.specs.declared.Side.{Side}
+use Rattle.constructor.specs.declared.Side.the-variants.{Below, Inside, Above}
 use Rattle.preference.specs.List.{zeroPreference, zeroNamed}
 use Rattle.preference.specs.declared.Named.{Named}
 use Rattle.preference.specs.declared.Preference.{Preference}
 use Rattle.preference.specs.declared.PreferenceList.{PreferenceList}
-use Rattle.marked_cases.specs.Question.{levelAsked, maxAsked, marksAsked, machineAsked, latticeAsked}
-use Rattle.marked_cases.specs.Question.{latticeCalled, windowCalled, ends, figure, figures, Case}
+use Rattle.marked_cases.specs.Question.{levelAsked, partsAsked, maxAsked, marksAsked, machineAsked, latticeAsked}
+use Rattle.marked_cases.specs.Question.{latticeCalled, windowCalled, ends, tells, figure, figures, Case}
 
 -- a list with these preferences and named values, and zeros at the rest of its eight and 64 places
 abbrev pub listOf : List Preference → List Named → PreferenceList
@@ -28,12 +31,16 @@ listOf ps ns =
 abbrev pub single : Constructor → List Named → PreferenceList
 single c ns = listOf (record { column = 1; constructor = c } ∷ []) ns
 
--- the level of a value, the number that it is refused by, and M, under the one preference of a list
-abbrev pub level : PreferenceList → ℤ → ℕ → Case
-level l v n = record { asks = levelAsked l 0 v; expects = ends (accepted n) }
+-- the level of a value and its side, the number that it is refused by, and M, under the one preference of a list
+abbrev pub level : PreferenceList → ℤ → ℕ → Side → Case
+level l v n s = record { asks = levelAsked l 0 v; expects = tells (accepted (record { level = n; side = s })) }
 
 abbrev pub refusal : PreferenceList → ℤ → ℕ → Case
-refusal l v k = record { asks = levelAsked l 0 v; expects = ends (refused k) }
+refusal l v k = record { asks = levelAsked l 0 v; expects = tells (refused k) }
+
+-- the pair of levels of a value
+abbrev pub pair : PreferenceList → ℤ → ℕ → ℕ → Case
+pair l v m n = record { asks = partsAsked l (pos 1 ∷ v ∷ []); expects = figures (m ∷ n ∷ []) }
 
 abbrev pub greatest : PreferenceList → ℕ → Case
 greatest l m = record { asks = maxAsked l 0; expects = figure m }
@@ -44,6 +51,10 @@ around = single (Around (pos 45) (pos 75) 5 (pos 50)) []
 
 abbrev pub between : PreferenceList
 between = single (Between (pos 50) (pos 95) 5 (pos 60) (pos 80)) []
+
+-- 003, Table 4: around 50, by kind 08
+abbrev pub sided : PreferenceList
+sided = single (BetweenTrivial (pos 45) (pos 75) 5 (pos 50) (pos 50)) []
 
 abbrev pub lowest : ℕ → PreferenceList
 lowest step = single (Lowest (negsuc 2147483647) (pos 2147483647) step) []
@@ -59,6 +70,14 @@ harbour =
     listOf
     (record { column = 1; constructor = Highest (pos 0) (pos 1000) 100 }
     ∷ record { column = 2; constructor = Around (pos 1000) (pos 1600) 50 (pos 1250) } ∷ [])
+    []
+
+-- the same with density by kind 08
+abbrev pub harbourSided : PreferenceList
+harbourSided =
+    listOf
+    (record { column = 1; constructor = Highest (pos 0) (pos 1000) 100 }
+    ∷ record { column = 2; constructor = BetweenTrivial (pos 1000) (pos 1600) 50 (pos 1250) (pos 1250) } ∷ [])
     []
 
 abbrev pub run : ℕ → ℕ → ℕ → List ℤ
@@ -95,6 +114,10 @@ compared l log rows w n = record { asks = windowCalled l log rows (2 * (rows + w
 abbrev pub machineMarks : PreferenceList → Log → ℕ → List ℕ → Case
 machineMarks l log w m = record { asks = machineAsked l log w; expects = figures m }
 
+-- too thin with more, and too thick with less: one level of density, on two sides
+abbrev pub thinAndThick : Log
+thinAndThick = logOf (run 1 900 1200 ++ run 1 800 1300)
+
 -- P10's log: level vectors (2,1) (1,2) (0,5) (1,1)
 abbrev pub fourRuns : Log
 fourRuns = logOf (run 1 2 1 ++ run 1 1 2 ++ run 1 0 5 ++ run 1 1 1)
@@ -106,30 +129,30 @@ noRuns = logOf []
 abbrev pub cases : List Case
 cases =
     -- P1
-    level around (pos 45) 1 ∷
-    level around (pos 50) 0 ∷
-    level around (pos 55) 1 ∷
-    level around (pos 70) 4 ∷
-    level around (pos 75) 5 ∷
+    level around (pos 45) 1 Below ∷
+    level around (pos 50) 0 Inside ∷
+    level around (pos 55) 1 Above ∷
+    level around (pos 70) 4 Above ∷
+    level around (pos 75) 5 Above ∷
     greatest around 5 ∷
     -- P2
-    level around (pos 51) 1 ∷
-    level around (pos 56) 2 ∷
+    level around (pos 51) 1 Above ∷
+    level around (pos 56) 2 Above ∷
     -- P3
-    level between (pos 59) 1 ∷
-    level between (pos 60) 0 ∷
-    level between (pos 80) 0 ∷
-    level between (pos 81) 1 ∷
-    level between (pos 95) 3 ∷
+    level between (pos 59) 1 Below ∷
+    level between (pos 60) 0 Inside ∷
+    level between (pos 80) 0 Inside ∷
+    level between (pos 81) 1 Above ∷
+    level between (pos 95) 3 Above ∷
     -- P4
     greatest (lowest 65537) 65535 ∷
-    level (lowest 65537) (pos 0) 32768 ∷
+    level (lowest 65537) (pos 0) 32768 Above ∷
     -- P5
     refusal (lowest 65536) (pos 0) 7 ∷
     -- P6
-    level layered (pos 7) 0 ∷
-    level layered (pos 3) 2 ∷
-    level layered (pos 9) 1 ∷
+    level layered (pos 7) 0 Inside ∷
+    level layered (pos 3) 2 Inside ∷
+    level layered (pos 9) 1 Inside ∷
     -- P7
     marks harbour harbourLog (1 ∷ 1 ∷ 1 ∷ 0 ∷ 1 ∷ []) ∷
     -- P8
@@ -150,4 +173,20 @@ cases =
     -- P12
     crossed (twoLowest 127 255) noRuns 0 32768 0 0 ∷
     notCrossed (twoLowest 128 255) noRuns 0 40000 0 9 ∷
+    -- 003, Table 4
+    pair sided (pos 45) 0 1 ∷
+    pair sided (pos 50) 0 0 ∷
+    pair sided (pos 55) 1 0 ∷
+    pair sided (pos 70) 4 3 ∷
+    pair sided (pos 75) 5 4 ∷
+    level sided (pos 45) 1 Below ∷
+    level sided (pos 75) 5 Above ∷
+    -- the Harbour log with density by kind 08
+    marks harbourSided harbourLog (1 ∷ 1 ∷ 1 ∷ 0 ∷ 1 ∷ []) ∷
+    lattice harbourSided harbourLog (704 ∷ 1752 ∷ 1872 ∷ []) ∷
+    compared harbourSided harbourLog 5 1 9 ∷
+    compared harbourSided harbourLog 5 4 9 ∷
+    -- AROUND keeps one of two runs that kind 08 keeps both
+    marks harbour thinAndThick (1 ∷ 0 ∷ []) ∷
+    marks harbourSided thinAndThick (1 ∷ 1 ∷ []) ∷
     []

@@ -11,8 +11,9 @@ use Rattle.arith.specs.Gap.{gap}
 use Rattle.arith.specs.Ceil.{ceilDiv}
 use Rattle.constructor.specs.Level.{distance, inside, maxLevel}
 use Rattle.constructor.specs.Valid.{sound, constructorRefusal, layerRefusal}
+use Rattle.constructor.specs.Side.{sideBy, sideOf, partsOf, topsOf}
 use Rattle.preference.specs.Valid.{columnRefusal, preferenceRefusal, namedRefusal, listRefusal}
-use Rattle.preference.specs.Level.{layerOf, levelAt, maxAt, valueRefusal, levelRefusal}
+use Rattle.preference.specs.Level.{layerOf, levelAt, sideAt, maxAt, valueRefusal, levelRefusal}
 use Rattle.preference.specs.Parts.{levels, maxLevels, rowRefusal}
 use Rattle.log.specs.Log.{logRefusal}
 use Rattle.word.specs.Word.{wordAt, intAt, wordBytes}
@@ -63,6 +64,6 @@ unfolding reportOf textOf linesText refusedText headText fieldsText lineText dec
     competes competing vectorAt rowDominates isBest bestMatches readOf valuesFrom valuesOf finish endRefusal records
     steps step takeRecord withRecord recordRefusal intsAt wordAt intAt wordBytes kindOf kinds endsLayered outOfPlace
     figuresRefusal constructorOf columnRefusal preferenceRefusal namedRefusal listRefusal layerOf levelAt maxAt
-    valueRefusal levelRefusal levels maxLevels rowRefusal distance inside maxLevel sound constructorRefusal
+    valueRefusal levelRefusal sideAt levels maxLevels rowRefusal sideBy sideOf partsOf topsOf distance inside maxLevel sound constructorRefusal
     layerRefusal gap ceilDiv joined anyOf firstAt anyBelow firstRefusal _gives_ _then_
 examples = (refl, refl, refl)
