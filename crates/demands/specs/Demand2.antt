@@ -1,8 +1,8 @@
 -- Demand 2: "The runs named are exactly the best matches of the Pareto preference .., as documents 000 and 003 define
 -- it". A BestMatch is a row in the sense of 000, Def. 15 and Def. 19; that the levels are the papers' is constructor,
 -- Laws/Papers.antt and Laws/Greatest.antt. A BestRun is the same told wish by wish, with the substitutable values of
--- each: of one level, and under kind 08 (document 02, order 2) of one side too. "Reading and writing the records undo each other": stream_roundtrip,
--- Theorems.antt.
+-- each: of one level, and under kind 08 (document 02, order 2) of one side too. "Reading and writing the records undo
+-- each other": stream_roundtrip, Theorems.antt.
 use mathlib.Core.Path.{_≡_, refl, ap, _∙_}
 use Prim.Native.Nat.{ℕ, _<_}
 use mathlib.Core.Bool.{true}

@@ -1,4 +1,5 @@
-// What a preference list says of a value and of a run: the level and the side of a value, and the level vector of a run.
+// What a preference list says of a value and of a run: the level and the side of a value, and the level vector of a
+// run.
 use constructor::Constructor;
 use constructor::Layering;
 use constructor::Side;

@@ -40,7 +40,8 @@ each (c ∷ cs) e = (cc, each cs (cc))
 pub marked-cases : Each cases
 unfolding answers expected answer outcome _gives_ _then_ firstAt anyBelow firstRefusal gap ceilDiv distance inside
     maxLevel sound constructorRefusal layerRefusal columnRefusal preferenceRefusal namedRefusal listRefusal layerOf
-    levelAt sideAt sideBy sideOf partsOf topsOf maxAt valueRefusal levelRefusal levels maxLevels rowRefusal joined anyOf logRefusal noneAbove someBelow
+    levelAt sideAt sideBy sideOf partsOf topsOf maxAt valueRefusal levelRefusal
+    levels maxLevels rowRefusal joined anyOf logRefusal noneAbove someBelow
     dominates competes competing vectorAt rowDominates isBest marksOf rowsRefusal checkedRefusal nodeCount nodeId
     levelsOf held dominatedNode reached edgesFrom edges crossedAt crossings boundFrom bound latticeTops latticeRow
     latticeRows latticeRefusal sizesRefusal windowRefusal machineOf machines.keep machines.marked machines.older

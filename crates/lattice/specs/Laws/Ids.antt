@@ -62,7 +62,8 @@ weighed-cong : (ws us t u : List ℕ) (p q n : ℕ) → ((k : ℕ) → k < n →
 unfolding weighed
 weighed-cong ws us t u p q zero h g = refl
 weighed-cong ws us t u p q (suc n) h g =
-    rw (h n (omega arith), g n (omega arith), weighed-cong ws us t u p q n (λ k l. h k (omega arith)) (λ k l. g k (omega arith)))
+    let e = weighed-cong ws us t u p q n (λ k l. h k (omega arith)) (λ k l. g k (omega arith)) in
+    rw (h n (omega arith), g n (omega arith), e)
 
 -- the first m of them, and those behind
 weighed-append : (ws t : List ℕ) (p m n : ℕ)
@@ -96,7 +97,8 @@ module _ (tops v table : List ℕ) (r : ℕ) (w : Within tops v) where
       let sum : 8 + n ≡ length tops = omega arith in
       rw (lt-ltb 8 (length ws) (omega arith), first, rest)
       (ap₂ (λ (a b : ℕ). a + b)
-      (weighed-cong (take 8 ws) ws table v (8 * r) 0 8 (λ k h. near k h ∙ rw (zero-add k)) (λ k h. getD-take 8 ws k 0 h))
+      (weighed-cong (take 8 ws) ws table v (8 * r) 0 8 (λ k h. near k h ∙ rw (zero-add k))
+      (λ k h. getD-take 8 ws k 0 h))
       (weighed-cong (drop 8 ws) (drop 8 ws) table v (8192 + 8 * r) (0 + 8) n (λ k h. far k (omega arith)) (λ k h. refl))
       ∙ sym (weighed-append ws v 0 8 n)
       ∙ rw sum (weighed-id tops v v 0 w (λ k h. rw (zero-add k))))
@@ -112,11 +114,12 @@ module _ (l : PreferenceList) (log : Log) (weights : List ℕ) (w : Weighed l we
       near : (k : ℕ) → k < 8 → getD (tableOf l (log .values)) (8 * r + k) 0 ≡ getD (latticeRow l log r) k 0
       near k q = rw (row-is l log r) (unfold vectorAt in table-at l (log .values) (w .list-accepted) z few r k h q)
 
-      go : (t : Bool) → isWide l ≡ t → nodeBy (weightsOf (latticeTops l)) (tableOf l (log .values)) r ≡ levelsNode l log r
+      go : (t : Bool) → isWide l ≡ t
+          → nodeBy (weightsOf (latticeTops l)) (tableOf l (log .values)) r ≡ levelsNode l log r
       go true e =
           node-far (latticeTops l) (latticeRow l log r) (tableOf l (log .values)) r within (wide-tops l e) near
-          (λ k q. rw (row-is l log r)
-          (unfold vectorAt in table-behind l (log .values) (w .list-accepted) z few e r k h (omega (arith, tops-few l))))
+          (λ k q. let j : k < 8 = omega (arith, tops-few l) in
+          rw (row-is l log r) (unfold vectorAt in table-behind l (log .values) (w .list-accepted) z few e r k h j))
       go false e =
           node-near (latticeTops l) (latticeRow l log r) (tableOf l (log .values)) r within (narrow-tops l e)
           (λ k q. near k (lt-of-lt-of-le q (narrow-tops l e)))

@@ -75,7 +75,8 @@ returns-4 c =
       ← rw n at (c .level-at .ensures),
       ← rw n at (c .before .side-at .ensures),
     )
-    (sym (outcome-accepted (v .value-refusal .result) (record { level = c .level-at .result; side = c .before .side-at .result }) (c .before .before .if3 .left)))
+    (sym (outcome-accepted (v .value-refusal .result) (record { level = c .level-at .result; side = c .before .side-at .result })
+    (c .before .before .if3 .left)))
 
 pub level-spec : {M : Type 1} → statement M
 level-spec =

@@ -69,7 +69,8 @@ returns c =
     let p = c .before in
     let l = loops p .loop in
     let a = start p .args in
-    let e : more (a .list) (a .k) (l .i) ≡ true = lt-ltb (a .k) (length (joined (maxParts (a .list)) (suc (l .i)))) (omega (arith, with-is p, c .if1 .taken)) in
+    let n = length (joined (maxParts (a .list)) (suc (l .i))) in
+    let e : more (a .list) (a .k) (l .i) ≡ true = lt-ltb (a .k) n (omega (arith, with-is p, c .if1 .taken)) in
     found (a .list) (a .k) (l .i) (l .before) (l .inv .4)
     (search-hit (more (a .list) (a .k)) (l .i) (places (a .list)) (l .inv .5) e
     (omega (arith, p .before .loop-test .taken, loops p .before .counted-places .ensures)))
@@ -85,7 +86,8 @@ loop-again c =
     let p = c .before in
     let l = loops p .loop in
     let a = start p .args in
-    let e : more (a .list) (a .k) (l .i) ≡ false = le-ltb (a .k) (length (joined (maxParts (a .list)) (suc (l .i)))) (omega (arith, with-is p, c .if1 .left)) in (
+    let n = length (joined (maxParts (a .list)) (suc (l .i))) in
+    let e : more (a .list) (a .k) (l .i) ≡ false = le-ltb (a .k) n (omega (arith, with-is p, c .if1 .left)) in (
       omega arith,
       l .inv .1,
       omega (arith, p .place-parts .ensures .1),

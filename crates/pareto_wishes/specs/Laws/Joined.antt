@@ -54,7 +54,8 @@ module _ (f g : ℕ → List ℕ) (same : (i : ℕ) → length (f i) ≡ length 
       let p = both (noneAbove (joined f n) (joined g n)) (noneAbove (f n) (g n)) (sym (none-more n) ∙ e) in
       ⊎-elim (λ q. rw q (p .1)) (λ q. none-each n (p .0) i q) (eq-or-lt-of-le (le-of-suc-le-suc h))
 
-  pub each-none : (n : ℕ) → ((i : ℕ) → i < n → noneAbove (f i) (g i) ≡ true) → noneAbove (joined f n) (joined g n) ≡ true
+  pub each-none : (n : ℕ) → ((i : ℕ) → i < n → noneAbove (f i) (g i) ≡ true)
+      → noneAbove (joined f n) (joined g n) ≡ true
   each-none zero h = unfold joined noneAbove in refl
   each-none (suc n) h = none-more n ∙ rw (each-none n (λ i q. h i (omega arith)), h n (omega arith))
 

@@ -182,8 +182,10 @@ module _ (l : PreferenceList) (e : listRefusal l ≡ 0) where
           → Within (maxParts l i) (levelParts l row i)
       under i true p m =
           let c = constructorAt l i in
-          rw (tops-pair c p, parts-pair c (levelAt l i (rowValue l row i)) (sideAt l i (rowValue l row i)) p)
-          (pair (maxLevel c) (levelAt l i (rowValue l row i)) (sideAt l i (rowValue l row i)) m)
+          let n = levelAt l i (rowValue l row i) in
+          let s = sideAt l i (rowValue l row i) in
+          rw (tops-pair c p, parts-pair c n s p) (pair (maxLevel c) n s m)
       under i false p m =
           let c = constructorAt l i in
-          rw (tops-single c p, parts-single c (levelAt l i (rowValue l row i)) (sideAt l i (rowValue l row i)) p) (m, tt)
+          let n = levelAt l i (rowValue l row i) in
+          rw (tops-single c p, parts-single c n (sideAt l i (rowValue l row i)) p) (m, tt)

@@ -64,6 +64,7 @@ unfolding reportOf textOf linesText refusedText headText fieldsText lineText dec
     competes competing vectorAt rowDominates isBest bestMatches readOf valuesFrom valuesOf finish endRefusal records
     steps step takeRecord withRecord recordRefusal intsAt wordAt intAt wordBytes kindOf kinds endsLayered outOfPlace
     figuresRefusal constructorOf columnRefusal preferenceRefusal namedRefusal listRefusal layerOf levelAt maxAt
-    valueRefusal levelRefusal sideAt levels maxLevels rowRefusal sideBy sideOf partsOf topsOf distance inside maxLevel sound constructorRefusal
+    valueRefusal levelRefusal sideAt sideBy sideOf partsOf topsOf levels maxLevels rowRefusal
+    distance inside maxLevel sound constructorRefusal
     layerRefusal gap ceilDiv joined anyOf firstAt anyBelow firstRefusal _gives_ _then_
 examples = (refl, refl, refl)

@@ -30,7 +30,9 @@ module _ (e : tie.After-row-count) where
   rows = d .competing-rows .last .1 .0
 
   rows-long : d .competing-rows .result ≤ length rows
-  rows-long = omega (arith, start .pre .0 .few, d .competing-rows .ensures .0, competing-few log, d .competing-rows .kept .1 .0, length-replicate {A = ℕ} 1024 0)
+  rows-long =
+      let n = length-replicate {A = ℕ} 1024 0 in
+      omega (arith, start .pre .0 .few, d .competing-rows .ensures .0, competing-few log, d .competing-rows .kept .1 .0)
 
   rows-are : take (d .competing-rows .result) rows ≡ competing log
   rows-are =
