@@ -17,17 +17,22 @@
  *   05 LAYERED       column, top layer (1-15), layer of others     3
  *   06 NAMED         value, layer (0 to its wish's top)            5
  *   07 RUN           eight values, columns 0 to 7                  32
+ *   08 (two sides)   column, lo, hi, step, low, up                 21
  *
- * Kinds 01 to 05 are wishes: one to eight of them, each on a column of its own.
+ * Kinds 01 to 05 and 08 are wishes: one to eight of them, each on a column of
+ * its own.
  * NAMED follows directly on LAYERED or NAMED and belongs to that wish; up to 64
  * in all. Runs come after all wishes, up to 1,024; the first is row 0.
  *
  * The level of a value is its distance from what is wished (v - lo, hi - v,
  * |v - z|, or how far v lies outside low..up) divided by step and rounded up;
  * for LAYERED it is the layer of the first NAMED with that value, else the
- * layer of other values. Row a betters row b when no level of a is above b's
- * and one is below. A row is on the shortlist when no row betters it: rows of
- * equal levels do not better each other.
+ * layer of other values. Kind 08 has the distance of BETWEEN and keeps what lies
+ * below low..up apart from what lies above: its level L is a pair of levels,
+ * (0, 0) inside, (L, L - 1) above and (L - 1, L) below, and each of the two
+ * counts as a level. Row a betters row b when no level of a is above b's and one
+ * is below. A row is on the shortlist when no row betters it: rows of equal
+ * levels do not better each other.
  *
  * WHAT BOTH CALLS PROMISE, for every content of the buffers and every number:
  *
@@ -68,7 +73,7 @@ extern "C" {
 /* The stream has no wish. That is the empty stream: any other first record is a
  * wish or is refused. */
 #define SHORTLIST_NO_WISH 1
-/* A record of unknown kind: not 01 to 07. */
+/* A record of unknown kind: not 01 to 08. */
 #define SHORTLIST_UNKNOWN_KIND 2
 /* A record out of place: a wish after a run, a run before any wish, NAMED after
  * anything but LAYERED or NAMED. */
@@ -85,8 +90,9 @@ extern "C" {
 #define SHORTLIST_TOO_MANY 7
 /* A run's value lies outside lo..hi of the wish on its column. */
 #define SHORTLIST_VALUE_OUTSIDE 8
-/* Lattice only: the product of (greatest level + 1) over the wishes is above
- * SHORTLIST_MAX_NODES. The window call takes the same stream. */
+/* Lattice only: the product of (greatest level + 1) over the wishes, twice for
+ * one of kind 08, is above SHORTLIST_MAX_NODES. The window call takes the same
+ * stream. */
 #define SHORTLIST_TOO_MANY_NODES 9
 /* marks_len is below the number of runs; for the window call also w not 1 to
  * SHORTLIST_MAX_WINDOW. */
