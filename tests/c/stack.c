@@ -45,30 +45,44 @@ static size_t taken(void *(*work)(void *)) {
     return ROOM - kept;
 }
 
-/* Eight wishes of two levels each and as many runs as there may be, no two of them bettering each other where that can be. */
-static void fill(void) {
+static void put(const uint8_t *bytes, size_t count) {
+    memcpy(stream + length, bytes, count);
+    length += count;
+}
+
+/* Eight wishes of two levels each, the first `sided` of them of kind 08, which has two level parts, and as many runs as there may
+ * be, no two of them bettering each other where that can be. */
+static void fill(uint8_t sided) {
     length = 0;
     for (uint8_t column = 0; column < 8; column++) {
-        const uint8_t wish[] = {1, column, 0, 0, 0, 0, 1, 0, 0, 0, 1, 0, 0, 0};
-        memcpy(stream + length, wish, sizeof wish);
-        length += sizeof wish;
+        const uint8_t lowest[] = {1, column, 0, 0, 0, 0, 1, 0, 0, 0, 1, 0, 0, 0};
+        const uint8_t pair[] = {8, column, 0, 0, 0, 0, 1, 0, 0, 0, 1, 0, 0, 0, 0, 0, 0, 0, 0, 0, 0, 0};
+        if (column < sided)
+            put(pair, sizeof pair);
+        else
+            put(lowest, sizeof lowest);
     }
     for (unsigned row = 0; row < SHORTLIST_MAX_RUNS; row++) {
-        memset(stream + length, 0, 33);
-        stream[length] = 7;
+        uint8_t run[33] = {7};
         for (unsigned column = 0; column < 8; column++)
-            stream[length + 1 + 4 * column] = (uint8_t)(row >> column & 1);
-        length += 33;
+            run[1 + 4 * column] = (uint8_t)(row >> column & 1);
+        put(run, sizeof run);
     }
 }
 
-int main(void) {
-    fill();
-    size_t none = taken(idle);
-    size_t most = taken(lattice) - none;
+/* What the calls take with so many wishes of kind 08; the lattice of fifteen parts has as many nodes as there may be. */
+static size_t most_of(uint8_t sided, size_t none) {
+    fill(sided);
+    size_t of_lattice = taken(lattice) - none;
     size_t of_window = taken(window) - none;
-    printf("stack: lattice %zu bytes, window %zu bytes, the header says %d\n", most, of_window, SHORTLIST_STACK_BYTES);
-    if (of_window > most)
-        most = of_window;
-    return most > SHORTLIST_STACK_BYTES;
+    printf("stack: %d of kind 08: lattice %zu bytes, window %zu bytes, the header says %d\n", sided, of_lattice, of_window,
+           SHORTLIST_STACK_BYTES);
+    return of_lattice > of_window ? of_lattice : of_window;
+}
+
+int main(void) {
+    size_t none = taken(idle);
+    size_t narrow = most_of(0, none);
+    size_t wide = most_of(7, none);
+    return narrow > SHORTLIST_STACK_BYTES || wide > SHORTLIST_STACK_BYTES;
 }
