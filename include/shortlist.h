@@ -129,7 +129,7 @@ extern "C" {
 /* A budget that suffices for every log: with it 11 never comes. */
 #define SHORTLIST_ENOUGH_BUDGET 262144
 /* Stack that a call may take: measured, and rounded up generously. */
-#define SHORTLIST_STACK_BYTES 98304
+#define SHORTLIST_STACK_BYTES 131072
 
 /* Finds the shortlist by walking a lattice of all combinations of levels. The
  * walk crosses each edge that leaves a reached node once, and budget is how many
