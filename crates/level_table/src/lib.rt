@@ -31,7 +31,9 @@ struct Rule {
 fn rule_of(list: PreferenceList, k: usize) -> Rule
     ensures { λ r. ⌜ r ≡ ruleOf list k ⌝ }
 {
-    if levels::parts(list) <= k {
+    let at = levels::part_at(list, k);
+    let place = at.place;
+    if levels::counted_places(list) <= place {
         return Rule {
             column: 0,
             low: 0,
@@ -42,8 +44,6 @@ fn rule_of(list: PreferenceList, k: usize) -> Rule
             half: 0,
         };
     }
-    let at = levels::part_at(list, k);
-    let place = at.place;
     let preference = list.preferences[place];
     let column = preference.column;
     let form = preference.constructor;
@@ -72,14 +72,20 @@ fn value_at(log: &[i32], r: usize, column: usize) -> i32
 
 // Part k of a form that goes by distance, into a column of a table: for each row a value, two differences, a division
 // and a store.
-fn fill_distances(list: PreferenceList, log: &[i32], k: usize, into: usize, table: &mut [u16])
-    requires { ⌜ ruleOf list k .layering ≡ Layering.Numeric ⌝ }
+fn fill_distances(
+    list: PreferenceList,
+    rule: Rule,
+    log: &[i32],
+    k: usize,
+    into: usize,
+    table: &mut [u16],
+)
+    requires { ⌜ (rule ≡ ruleOf list k) × (ruleOf list k .layering ≡ Layering.Numeric) ⌝ }
     requires { ⌜ Room (now log) (now table) into ⌝ }
     ensures { λ _. ⌜
         now (table .exit)
         ≡ withPart (partAt list (now (log .entry)) k) into (rowCount (now (log .entry))) (now (table .entry)) ⌝ }
 {
-    let rule = rule_of(list, k);
     let column = rule.column;
     let low = rule.low;
     let up = rule.up;
@@ -158,7 +164,7 @@ fn fill_part(list: PreferenceList, log: &[i32], k: usize, into: usize, table: &m
     let rule = rule_of(list, k);
     let y = rule.layering;
     match y {
-        Layering::Numeric => fill_distances(list, log, k, into, table),
+        Layering::Numeric => fill_distances(list, rule, log, k, into, table),
         Layering::Layers { top: _, others } => fill_layers(list, log, k, into, others, table),
     }
 }

@@ -88,7 +88,7 @@ pub fn level(list: PreferenceList, place: u32, value: i32) -> LevelAnswer
 // ---- the level vector of a run
 
 // The number of the preferences that a list holds.
-fn counted_places(list: PreferenceList) -> usize
+pub fn counted_places(list: PreferenceList) -> usize
     ensures { λ r. ⌜ r ≡ places list ⌝ }
 {
     preference::at_most_8(list.count as usize)
@@ -161,11 +161,11 @@ pub fn part_at(list: PreferenceList, k: usize) -> PartAt
 pub fn part_level(list: PreferenceList, row: &[i32], k: usize) -> u64
     ensures { λ r. ⌜ r ≡ getD (levels list (now (row .entry))) k 0 ⌝ }
 {
-    if parts(list) <= k {
-        return 0;
-    }
     let at = part_at(list, k);
     let place = at.place;
+    if counted_places(list) <= place {
+        return 0;
+    }
     let p = list.preferences[place];
     let v = run_value(p, row);
     let level = level_at(list, place, v);
@@ -178,11 +178,12 @@ pub fn part_level(list: PreferenceList, row: &[i32], k: usize) -> u64
 pub fn part_max(list: PreferenceList, k: usize) -> u64
     ensures { λ r. ⌜ r ≡ getD (maxLevels list) k 0 ⌝ }
 {
-    if parts(list) <= k {
+    let at = part_at(list, k);
+    let place = at.place;
+    if counted_places(list) <= place {
         return 0;
     }
-    let at = part_at(list, k);
-    let c = constructor_at(list, at.place);
+    let c = constructor_at(list, place);
     constructor::max_level(c)
 }
 

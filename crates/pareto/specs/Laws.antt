@@ -6,3 +6,4 @@ pub mod Call
 pub mod Counted
 pub mod Table
 pub mod Refusals
+pub mod Planes

@@ -19,6 +19,10 @@ isDouble table = ltb maxValues (length table)
 abbrev pub rowsIn : ℕ → ℕ
 rowsIn n = cond (ltb maxValues n) ((n - maxValues) / columns) (n / columns)
 
+-- row a is one of those of a table of n numbers that has one plane
+abbrev pub inPlane : ℕ → ℕ → Bool
+inPlane n a = ltb a (cond (ltb maxValues n) 0 (n / columns))
+
 -- row a has a level below row b's in the first plane, or in the second
 abbrev pub lowerIn : List ℕ → ℕ → ℕ → Bool
 lowerIn table a b = anyBelow (lower table (columns * a) (columns * b)) columns

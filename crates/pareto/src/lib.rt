@@ -2,17 +2,18 @@
 // compete, and how two rows of a level table stand.
 use preference::PreferenceList;
 ghost use mathlib.Core.Path.{_≡_};
-ghost use Prim.Native.Nat.{_+_, _*_, _≤_};
+ghost use Prim.Native.Nat.{_+_, _-_, _*_, _/_, _≤_};
 ghost use lib.ListN.{length, set};
 ghost use lib.Seq.{sets};
-ghost use mathlib.Core.Bool.{_||_};
+ghost use mathlib.Core.Bool.{false, _&&_, _||_, cond};
+ghost use lib.Dec.{ltb};
 ghost use Rattle.limits.specs.Limits.{columns, maxValues};
 ghost use Rattle.laws.specs.First.{anyBelow};
 ghost use Rattle.log.specs.Log.{rowAt, logOf};
 ghost use Rattle.preference.specs.Parts.{rowRefusal};
 ghost use Rattle.pareto.specs.Best.{competes, competing};
 ghost use Rattle.pareto.specs.Checked.{rowsRefusal, checkedRefusal};
-ghost use Rattle.pareto.specs.Table.{lower, rowsIn, lowerIn, lowerBehind, hasLower, relation, compared};
+ghost use Rattle.pareto.specs.Table.{lower, inPlane, lowerIn, lowerBehind, hasLower, relation, compared};
 
 // 8 or 0 of one row.
 fn row_at_refusal(list: PreferenceList, log: &[i32], r: usize) -> u8
@@ -164,17 +165,6 @@ fn either(p: Lower, q: Lower) -> Lower
     }
 }
 
-// How many rows a table of so many numbers has.
-fn rows_in(count: usize) -> usize
-    ensures { λ n. ⌜ n ≡ rowsIn count ⌝ }
-{
-    if limits::MAX_VALUES < count {
-        (count - limits::MAX_VALUES) / limits::COLUMNS
-    } else {
-        count / limits::COLUMNS
-    }
-}
-
 // Two rows of a table of two planes.
 fn double_compared(table: &[u16], a: usize, b: usize) -> Lower
     requires { ⌜
@@ -192,30 +182,56 @@ fn double_compared(table: &[u16], a: usize, b: usize) -> Lower
     either(near, far)
 }
 
-// Which of rows a and b of a table has a level below the other's.
+// How many rows a table of so many numbers has, if it has one plane, and if it has two.
+fn plane_rows(count: usize) -> usize
+    ensures { λ n. ⌜ n ≡ cond (ltb maxValues count) 0 (count / columns) ⌝ }
+{
+    if limits::MAX_VALUES < count {
+        0
+    } else {
+        count / limits::COLUMNS
+    }
+}
+
+fn double_rows(count: usize) -> usize
+    ensures { λ n. ⌜ n ≡ cond (ltb maxValues count) ((count - maxValues) / columns) 0 ⌝ }
+{
+    if limits::MAX_VALUES < count {
+        (count - limits::MAX_VALUES) / limits::COLUMNS
+    } else {
+        0
+    }
+}
+
+// Rows a and b of a table that has not both of them in its only plane.
+fn other_rows(table: &[u16], a: usize, b: usize) -> Lower
+    requires { ⌜ (inPlane (length (now table)) a && inPlane (length (now table)) b) ≡ false ⌝ }
+    ensures { λ r. ⌜
+        (r .first ≡ hasLower (now (table .entry)) a b)
+        × (r .second ≡ hasLower (now (table .entry)) b a)
+        × (r .relation ≡ compared (now (table .entry)) a b) ⌝ }
+{
+    let rows = double_rows(table.len());
+    if (rows <= a) | (rows <= b) {
+        return Lower {
+            first: false,
+            second: false,
+            relation: EQUAL,
+        };
+    }
+    double_compared(table, a, b)
+}
+
+// Which of rows a and b of a table has a level below the other's. Tables of one plane pay for no second one.
 pub fn lower_levels(table: &[u16], a: usize, b: usize) -> Lower
     ensures { λ r. ⌜
         (r .first ≡ hasLower (now (table .entry)) a b)
         × (r .second ≡ hasLower (now (table .entry)) b a)
         × (r .relation ≡ compared (now (table .entry)) a b) ⌝ }
 {
-    let rows = rows_in(table.len());
-    if rows <= a {
-        return Lower {
-            first: false,
-            second: false,
-            relation: EQUAL,
-        };
-    }
-    if rows <= b {
-        return Lower {
-            first: false,
-            second: false,
-            relation: EQUAL,
-        };
-    }
-    if limits::MAX_VALUES < table.len() {
-        return double_compared(table, a, b);
+    let rows = plane_rows(table.len());
+    if (rows <= a) | (rows <= b) {
+        return other_rows(table, a, b);
     }
     rows_compared(table, limits::COLUMNS * a, limits::COLUMNS * b)
 }

@@ -70,6 +70,12 @@ module _ (g : ℕ → List ℕ) (k : ℕ) where
   before-list zero h = omega arith
   before-list (suc j) h = ltb-false _ _ (h j (omega arith))
 
+  pub list-found : (n : ℕ) → listWith g n k < n → k < length (joined g n)
+  list-found n h =
+      let i = listWith g n k in
+      let high = ltb-true k (length (joined g (suc i))) (first-is (λ j. ltb k (length (joined g (suc j)))) n .there h) in
+      omega (arith, high, joined-grows g (suc i) n h)
+
   -- and its place there
   pub list-within : (n : ℕ) → k < length (joined g n)
       → k - length (joined g (listWith g n k)) < length (g (listWith g n k))

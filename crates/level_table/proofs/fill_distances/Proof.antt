@@ -26,9 +26,6 @@ Inv-loop log k into table₀ column low up step pair half n r₀ table r =
 abbrev μ-loop : tie.MeasureT-loop
 μ-loop log k into table₀ column low up step pair half n r₀ table r = n - r
 
-rule-of-requires : tie.Need-rule-of-requires Inv-loop μ-loop
-rule-of-requires c κs = search needs
-
 row-count-requires : tie.Need-row-count-requires Inv-loop μ-loop
 row-count-requires c κs = search needs
 
@@ -51,19 +48,19 @@ mul-table c = search needs
 add-table : tie.Need-add-table Inv-loop μ-loop
 add-table c =
     let d = c .before .before .before in
-    let room = d .before .before .before .before .before .before .pre .1 in
+    let room = d .before .before .before .before .before .pre .1 in
     omega (arith, c .before .before .loop-test .taken, d .loop .inv .1, d .loop .inv .2, room .rows, room .column)
 
 mul-table-2 : tie.Need-mul-table-2 Inv-loop μ-loop
 mul-table-2 c =
     let d = c .before .before .before in
-    let room = d .before .before .before .before .before .before .pre .1 in
+    let room = d .before .before .before .before .before .pre .1 in
     omega (arith, c .before .before .loop-test .taken, d .loop .inv .1, d .loop .inv .2, room .rows, room .column)
 
 slice-write-table : tie.Need-slice-write-table Inv-loop μ-loop
 slice-write-table c =
     let d = c .before .before .before in
-    let room = d .before .before .before .before .before .before .pre .1 in
+    let room = d .before .before .before .before .before .pre .1 in
     omega (arith, c .before .before .loop-test .taken, d .loop .inv .1, d .loop .inv .2, room .rows, room .column)
 
 add-r : tie.Need-add-r Inv-loop μ-loop
@@ -75,7 +72,7 @@ loop-less c = search needs
 loop-again : tie.Need-loop-again Inv-loop μ-loop
 loop-again c =
     let d = c .before .before .before in
-    let a = d .before .before .before .before .before .before .args in
+    let a = d .before .before .before .before .before .args in
     let v = c .before .value-at in
     let row = rowAt (a .log .now) (d .loop .r) in (
       search needs,
@@ -94,19 +91,20 @@ same-length c = c .before .loop .inv .2
 returns : tie.Need-returns Inv-loop μ-loop
 returns c =
     let d = c .before .loop in
-    let g = c .before .before .before .before .before in
-    let a = g .before .before .args in
-    let x = g .rule-of in
-    let k = c .before .before .before .before .struct-told .given in
+    let t = c .before .before .before .before in
+    let s = t .before .before in
+    let a = s .args in
     let e : d .r ≡ length (a .log .now) / 8 = omega (arith, d .inv .1) in
+    let x = sym (s .pre .0 .0) in
+    let k = t .struct-told .given in
     let h : Ruled (a .list) (a .k) _ _ _ _ _ _ = record {
-      numeric = g .before .before .pre .0;
-      column-is = ap (λ (r : Rule). r .column) (sym (x .ensures));
-      low-is = ap (λ (r : Rule). r .low) (sym (x .ensures)) ∙ sym (num (x .result .low) (k .1 .0 .1));
-      up-is = ap (λ (r : Rule). r .up) (sym (x .ensures)) ∙ sym (num (x .result .up) (k .1 .1 .0 .1));
-      step-is = ap (λ (r : Rule). r .step) (sym (x .ensures));
-      pair-is = ap (λ (r : Rule). r .pair) (sym (x .ensures));
-      half-is = ap (λ (r : Rule). r .half) (sym (x .ensures));
+      numeric = s .pre .0 .1;
+      column-is = ap (λ (r : Rule). r .column) x;
+      low-is = ap (λ (r : Rule). r .low) x ∙ sym (num (a .rule .low) (k .1 .0 .1));
+      up-is = ap (λ (r : Rule). r .up) x ∙ sym (num (a .rule .up) (k .1 .1 .0 .1));
+      step-is = ap (λ (r : Rule). r .step) x;
+      pair-is = ap (λ (r : Rule). r .pair) x;
+      half-is = ap (λ (r : Rule). r .half) x;
     } in
     rw (← e) (d .inv .3 (a .list) h)
 
@@ -116,7 +114,6 @@ fill-distances-spec =
     (tie.spec
     Inv-loop
     μ-loop
-    rule-of-requires
     row-count-requires
     loop-holds
     value-at-requires

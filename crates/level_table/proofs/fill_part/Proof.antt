@@ -13,7 +13,8 @@ enum-told c = search needs
 
 fill-distances-requires : tie.Need-fill-distances-requires
 fill-distances-requires c κs =
-    (ap (λ (r : Rule). r .layering) (sym (c .before .before .before .rule-of .ensures)) ∙ c .before .enum-told .given .1, search needs)
+    let x = c .before .before .before .rule-of .ensures in
+    ((x, ap (λ (r : Rule). r .layering) (sym x) ∙ c .before .enum-told .given .1), search needs)
 
 enum-known-y : tie.Need-enum-known-y
 enum-known-y c = search needs

@@ -3,30 +3,43 @@ use lib.ListN.{length}
 use borrow.Author.Tests.{le-leb, lt-leb}
 use native.Mathlib.Omega.{arith}
 use borrow.Author.Needs.{needs}
-use Rattle.preference.specs.Parts.{maxLevels}
-use Rattle.preference.specs.Laws.Parts.{part-place}
+use Rattle.preference.specs.List.{places}
+use Rattle.preference.specs.Parts.{maxLevels, partOf}
+use Rattle.preference.specs.Laws.Parts.{part-counted, part-past}
 use Rattle.arith.specs.Laws.Local.{num}
 use Rattle.level_table.specs.Rule.{ruleOf}
 use Rattle.level_table.proofs.rule_of.Statement.{statement}
 use Rattle.level_table.proofs.rule_of.Tie as tie
 
 -- k is that of a part, whose preference is held
-module _ (p : tie.After-part-at) where
-  counted : p .before .before .before .args .k < length (maxLevels (p .before .before .before .args .t1))
-  counted = rw (p .before .before .parts .ensures) at (p .before .if1 .left)
+module _ (g : tie.Else1) where
+  abbrev placed : tie.After-part-at
+  placed = g .before .before
 
-  inside : p .part-at .result .place < 8
-  inside = rw (p .part-at .ensures) (omega (arith, part-place (p .before .before .before .args .t1) (p .before .before .before .args .k) counted))
+  abbrev start : tie.Start
+  start = placed .before
 
-parts-requires : tie.Need-parts-requires
-parts-requires c κs = search needs
+  held : partOf (start .args .t1) (start .args .k) .place < places (start .args .t1)
+  held = rw (g .before .counted-places .ensures, placed .part-at .ensures) at (g .if1 .left)
 
-returns : tie.Need-returns
-unfolding ruleOf
-returns c = rw (le-leb _ _ (rw (c .before .parts .ensures) at (c .if1 .taken)))
+  counted : start .args .k < length (maxLevels (start .args .t1))
+  counted = part-counted (start .args .t1) (start .args .k) held
+
+  inside : placed .part-at .result .place < 8
+  inside = rw (placed .part-at .ensures) (omega (arith, held))
 
 part-at-requires : tie.Need-part-at-requires
 part-at-requires c κs = search needs
+
+counted-places-requires : tie.Need-counted-places-requires
+counted-places-requires c κs = search needs
+
+returns : tie.Need-returns
+unfolding ruleOf
+returns c =
+    let p = c .before .before in
+    let a = p .before .args in
+    rw (le-leb _ _ (part-past (a .t1) (a .k) (rw (c .before .counted-places .ensures, p .part-at .ensures) at (c .if1 .taken))))
 
 mul-preference : tie.Need-mul-preference
 mul-preference c = omega (arith, inside c)
@@ -54,10 +67,11 @@ unfolding ruleOf
 returns-2 c =
     let w = c .before in
     let g = w .before .before .before .before in
-    let p = g .before .before .before in
+    let e = g .before .before .before in
+    let p = placed e in
     let k = w .before .before .before .struct-told .given in
     rw (
-      lt-leb _ _ (counted p),
+      lt-leb _ _ (counted e),
       ← p .part-at .ensures,
       c .is-pair .ensures,
       w .wide .ensures,
@@ -72,9 +86,9 @@ pub rule-of-spec : {M : Type 1} → statement M
 rule-of-spec =
     tie.close
     (tie.spec
-    parts-requires
-    returns
     part-at-requires
+    counted-places-requires
+    returns
     mul-preference
     element-copy-out-preference
     scale-of-requires

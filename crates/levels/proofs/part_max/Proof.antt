@@ -5,21 +5,23 @@ use Rattle.constructor.specs.Level.{maxLevel}
 use Rattle.preference.specs.List.{constructorAt}
 use Rattle.preference.specs.Level.{maxAt}
 use Rattle.preference.specs.Parts.{maxLevels}
-use Rattle.preference.specs.Laws.Parts.{max-counted}
+use Rattle.preference.specs.Laws.Parts.{part-counted, part-past, max-counted}
 use Rattle.preference.specs.declared.PartAt.{PartAt}
 use Rattle.levels.proofs.part_max.Statement.{statement}
 use Rattle.levels.proofs.part_max.Tie as tie
 
-parts-requires : tie.Need-parts-requires
-parts-requires c κs = search needs
+part-at-requires : tie.Need-part-at-requires
+part-at-requires c κs = search needs
+
+counted-places-requires : tie.Need-counted-places-requires
+counted-places-requires c κs = search needs
 
 returns : tie.Need-returns
 returns c =
-    let a = c .before .before .args in
-    sym (List·getD-eq-default (maxLevels (a .list)) 0 (rw (c .before .parts .ensures) at (c .if1 .taken)))
-
-part-at-requires : tie.Need-part-at-requires
-part-at-requires c κs = search needs
+    let p = c .before .before in
+    let a = p .before .args in
+    sym (List·getD-eq-default (maxLevels (a .list)) 0
+    (part-past (a .list) (a .k) (rw (c .before .counted-places .ensures, p .part-at .ensures) at (c .if1 .taken))))
 
 constructor-at-requires : tie.Need-constructor-at-requires
 constructor-at-requires c κs = search needs
@@ -30,13 +32,21 @@ max-level-requires c κs = search needs
 returns-2 : tie.Need-returns-2
 unfolding maxAt
 returns-2 c =
-    let p = c .before .before in
-    let b = p .before in
-    let a = b .before .before .args in
+    let g = c .before .before in
+    let p = g .before .before in
+    let a = p .before .args in
     c .max-level .ensures
     ∙ ap maxLevel (c .before .constructor-at .ensures ∙ ap (λ (q : PartAt). constructorAt (a .list) (q .place)) (p .part-at .ensures))
-    ∙ sym (max-counted (a .list) (a .k) (rw (b .before .parts .ensures) at (b .if1 .left)))
+    ∙ sym (max-counted (a .list) (a .k)
+    (part-counted (a .list) (a .k) (rw (g .before .counted-places .ensures, p .part-at .ensures) at (g .if1 .left))))
 
 pub part-max-spec : {M : Type 1} → statement M
 part-max-spec =
-    tie.close (tie.spec parts-requires returns part-at-requires constructor-at-requires max-level-requires returns-2)
+    tie.close
+    (tie.spec
+    part-at-requires
+    counted-places-requires
+    returns
+    constructor-at-requires
+    max-level-requires
+    returns-2)

@@ -2,6 +2,7 @@
 -- that is not refused by 8 are at most the greatest levels, which are at most 65,535.
 use mathlib.Core.Path.{_≡_, refl, _∙_}
 use Prim.Native.Nat.{ℕ, zero, suc, _*_, _-_, _<_, _≤_, min}
+use native.Mathlib.Decide.{decLt}
 use native.Mathlib.Omega.{arith}
 use native.Mathlib.Nat.{min-le-right}
 use mathlib.Core.Bool.{Bool, true, false}
@@ -21,7 +22,7 @@ use Rattle.preference.specs.Valid.{listRefusal}
 use Rattle.preference.specs.Level.{levelAt, sideAt, maxAt, valueRefusal}
 use Rattle.preference.specs.Parts.{rowValue, levelParts, maxParts, levels, maxLevels, partOf, rowRefusal}
 use Rattle.laws.specs.Lists.{joined}
-use Rattle.laws.specs.Laws.Joined.{joined-length, list-counted, list-within, list-at}
+use Rattle.laws.specs.Laws.Joined.{joined-length, list-counted, list-found, list-within, list-at}
 use Rattle.preference.specs.Laws.Level.{level-most, max-small}
 use Rattle.preference.specs.Laws.Valid.{accepted, places-counted}
 use Rattle.preference.specs.declared.PreferenceList.{PreferenceList}
@@ -112,6 +113,18 @@ module _ (l : PreferenceList) (k : ℕ) (h : k < length (maxLevels l)) where
   pub max-counted : getD (maxLevels l) k 0 ≡ maxAt l (partOf l k .place)
   unfolding maxAt
   max-counted = part-max ∙ tops-at (constructorAt l (partOf l k .place)) (partOf l k .half) part-half
+
+-- and past them
+pub part-counted : (l : PreferenceList) (k : ℕ) → partOf l k .place < places l → k < length (maxLevels l)
+unfolding partOf maxLevels
+part-counted l k h = list-found (maxParts l) k (places l) h
+
+pub part-past : (l : PreferenceList) (k : ℕ) → places l ≤ partOf l k .place → length (maxLevels l) ≤ k
+part-past l k h = go (decLt k (length (maxLevels l)))
+  where
+    go : Dec (k < length (maxLevels l)) → length (maxLevels l) ≤ k
+    go (yes q) = absurd (omega (arith, part-place l k q))
+    go (no q) = omega arith
 
 -- past the last part
 pub level-past : (l : PreferenceList) (row : List ℤ) (k : ℕ) → length (maxLevels l) ≤ k → getD (levels l row) k 0 ≡ 0
