@@ -73,7 +73,8 @@ module _ (g : ℕ → List ℕ) (k : ℕ) where
   pub list-found : (n : ℕ) → listWith g n k < n → k < length (joined g n)
   list-found n h =
       let i = listWith g n k in
-      let high = ltb-true k (length (joined g (suc i))) (first-is (λ j. ltb k (length (joined g (suc j)))) n .there h) in
+      let w = first-is (λ j. ltb k (length (joined g (suc j)))) n in
+      let high = ltb-true k (length (joined g (suc i))) (w .there h) in
       omega (arith, high, joined-grows g (suc i) n h)
 
   -- and its place there

@@ -49,7 +49,8 @@ module _ (n a b : ℕ) where
   both-in h k = (rw (lt-ltb a (n / 8) h, lt-ltb b (n / 8) k), rw (lt-ltb a (n / 8) h, lt-ltb b (n / 8) k))
 
 -- by which rows there are, and by which has a lower level
-module _ (below : ℕ → ℕ → Bool) (n a b : ℕ) (x : ℕ → ℕ → Bool) (e : (p q : ℕ) → below p q ≡ (bothIn n p q && x p q)) where
+module _ (below : ℕ → ℕ → Bool) (n a b : ℕ) (x : ℕ → ℕ → Bool)
+    (e : (p q : ℕ) → below p q ≡ (bothIn n p q && x p q)) where
   pub looked-past : (bothIn n a b ≡ false) × (bothIn n b a ≡ false)
       → Looked below a b (record { first = false; second = false; relation = 0 })
   looked-past h =
