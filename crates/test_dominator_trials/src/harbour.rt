@@ -1,4 +1,4 @@
-// The Harbour log, row by row.
+// The Harbour log, row by row, and its row 3 with kind 08 for AROUND.
 use dominator::DominatorAnswer;
 use test_support::short_logs;
 use test_support::show;
@@ -19,6 +19,12 @@ fn show_answer(answer: DominatorAnswer) {
 fn show_row(label: &[u8], log: &[i32], row: u32) {
     show::text(label);
     show_answer(dominator::of(short_logs::harbour_list(), log, row));
+    show::end_line();
+}
+
+fn show_row_3_by_pairs(log: &[i32]) {
+    show::text(b"row 3 with kind 08:");
+    show_answer(dominator::of(short_logs::harbour_pairs(), log, 3));
     show::end_line();
 }
 
@@ -44,5 +50,6 @@ pub fn all() {
     show_row(b"row 2:", &log, 2);
     show_row(b"row 3:", &log, 3);
     show_row(b"row 4:", &log, 4);
+    show_row_3_by_pairs(&log);
     refusals();
 }

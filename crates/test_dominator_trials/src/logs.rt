@@ -3,15 +3,18 @@ ghost use Prim.Native.Nat.{_≤_};
 use crate::rows;
 use preference::PreferenceList;
 use test_support::figures;
+use test_support::levels_apart;
 use test_support::lists;
 use test_support::logs;
 use test_support::nested;
 use test_support::show;
 
-// What was tried so far: differences, logs refused by 8, and the rows of the others, with those on a shortlist.
+// What was tried so far: differences, logs refused by 8, and of the others those of sixteen level parts, their rows,
+// and those on a shortlist.
 struct Tally {
     differing: u64,
     refused: u64,
+    sixteen: u64,
     rows: u64,
     best: u64,
 }
@@ -35,6 +38,7 @@ fn refused(list: PreferenceList, log: &[i32], rows: u32, t: Tally) -> Tally {
     Tally {
         differing: add(t.differing, bad),
         refused: add(t.refused, 1),
+        sixteen: t.sixteen,
         rows: t.rows,
         best: t.best,
     }
@@ -44,7 +48,7 @@ fn refused(list: PreferenceList, log: &[i32], rows: u32, t: Tally) -> Tally {
 fn accepted(list: PreferenceList, log: &[i32], rows: u32, t: Tally) -> Tally
     requires { ⌜ rows ≤ 40 ⌝ }
 {
-    let mut table = [0u32; 320];
+    let mut table = [0u32; 640];
     let mut marks = [0u8; 40];
     nested::fill_levels(list, log, &mut table);
     nested::fill_marks(&table, rows as usize, &mut marks);
@@ -53,6 +57,7 @@ fn accepted(list: PreferenceList, log: &[i32], rows: u32, t: Tally) -> Tally
     Tally {
         differing: add(t.differing, bad + past),
         refused: t.refused,
+        sixteen: add(t.sixteen, one_unless(levels_apart::parts_of(list) != 16)),
         rows: add(t.rows, rows as u64),
         best: add(t.best, rows::marked(&marks)),
     }
@@ -87,6 +92,8 @@ fn tried_seed(seed: u32, t: Tally) -> Tally {
 fn show_totals(t: Tally) {
     show::text(b" refused 8:");
     show::number(t.refused);
+    show::text(b" sixteen parts:");
+    show::number(t.sixteen);
     show::text(b" rows");
     show::number(t.rows);
     show::text(b" refused 13:");
@@ -101,6 +108,7 @@ pub fn all() {
     let mut t = Tally {
         differing: 0,
         refused: 0,
+        sixteen: 0,
         rows: 0,
         best: 0,
     };

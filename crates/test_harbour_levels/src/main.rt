@@ -1,12 +1,32 @@
 // Shows the levels of the Harbour log (document 01, "Harbour log and marked cases"): most cubic metres, density near
-// 1,250.
+// 1,250; then the same with kind 08 for AROUND (document 02, order 2), and the sides of the runs' values.
 use constructor::Constructor;
 use preference::Named;
 use preference::Preference;
 use preference::PreferenceList;
 use test_support::show;
+use test_support::trial;
 
-fn wishes() -> PreferenceList {
+fn around() -> Constructor {
+    Constructor::Around {
+        lo: 1000,
+        hi: 1600,
+        step: 50,
+        z: 1250,
+    }
+}
+
+fn between_trivial() -> Constructor {
+    Constructor::BetweenTrivial {
+        lo: 1000,
+        hi: 1600,
+        step: 50,
+        low: 1250,
+        up: 1250,
+    }
+}
+
+fn wishes(form: Constructor) -> PreferenceList {
     let cubic_metres = Preference {
         column: 1,
         constructor: Constructor::Highest {
@@ -17,12 +37,7 @@ fn wishes() -> PreferenceList {
     };
     let density = Preference {
         column: 2,
-        constructor: Constructor::Around {
-            lo: 1000,
-            hi: 1600,
-            step: 50,
-            z: 1250,
-        },
+        constructor: form,
     };
     let unnamed = Named {
         preference: 0,
@@ -49,20 +64,54 @@ fn show_run(list: PreferenceList, row: u64, values: [i32; 8]) {
     show::text(b"run");
     show::number(row);
     show::text(b" levels");
-    show::number(levels::part_level(list, &values, 0));
-    show::number(levels::part_level(list, &values, 1));
+    let parts = levels::parts(list);
+    let mut k: usize = 0;
+    while k < parts {
+        show::number(levels::part_level(list, &values, k));
+        k += 1;
+    }
     show::end_line();
 }
 
-fn main() {
-    let list = wishes();
+fn show_greatest(list: PreferenceList) {
+    show::text(b"greatest levels");
+    let parts = levels::parts(list);
+    let mut k: usize = 0;
+    while k < parts {
+        show::number(levels::part_max(list, k));
+        k += 1;
+    }
+    show::end_line();
+}
+
+fn show_runs(list: PreferenceList) {
     show_run(list, 0, run(800, 900, 1300));
     show_run(list, 1, run(650, 1000, 1400));
     show_run(list, 2, run(700, 850, 1250));
     show_run(list, 3, run(720, 880, 1210));
     show_run(list, 4, run(810, 900, 1270));
-    show::text(b"greatest levels");
-    show::number(levels::part_max(list, 0));
-    show::number(levels::part_max(list, 1));
+    show_greatest(list);
+}
+
+// The answers for the five runs' values of one column.
+fn show_sides(label: &[u8], list: PreferenceList, place: u32, values: [i32; 5]) {
+    show::text(label);
+    trial::show_level(list, place, values[0]);
+    trial::show_level(list, place, values[1]);
+    trial::show_level(list, place, values[2]);
+    trial::show_level(list, place, values[3]);
+    trial::show_level(list, place, values[4]);
     show::end_line();
+}
+
+fn main() {
+    let one = wishes(around());
+    let two = wishes(between_trivial());
+    show_runs(one);
+    show::text(b"with kind 08\n");
+    show_runs(two);
+    let densities = [1300, 1400, 1250, 1210, 1270];
+    show_sides(b"cubic metres:", one, 0, [900, 1000, 850, 880, 900]);
+    show_sides(b"density by AROUND:", one, 1, densities);
+    show_sides(b"density by kind 08:", two, 1, densities);
 }

@@ -1,8 +1,6 @@
-// Node bytes and crossings, found by comparing every node with every row. Level vectors lie in tables of eight parts
+// Node bytes and crossings, found by comparing every node with every row. Level vectors lie in tables of sixteen parts
 // each.
 ghost use Prim.Native.Nat.{_<_, _≤_};
-use preference::PreferenceList;
-use test_support::levels_apart;
 use test_support::nested;
 
 fn put(digits: &mut [u32], at: usize, v: u32) {
@@ -17,17 +15,9 @@ fn put_byte(nodes: &mut [u8], at: usize, b: u8) {
     }
 }
 
-pub fn fill_tops(list: PreferenceList, tops: &mut [u32]) {
-    let mut k: usize = 0;
-    while k < tops.len() {
-        tops[k] = levels_apart::top(list, k);
-        k += 1;
-    }
-}
-
 // The digits of the next node, the last digit first; false past the last node.
 fn advance(digits: &mut [u32], tops: &[u32]) -> bool {
-    let mut k: usize = 8;
+    let mut k: usize = 16;
     while 0 < k {
         k -= 1;
         let d = nested::part(digits, 0, k);
@@ -44,7 +34,7 @@ fn advance(digits: &mut [u32], tops: &[u32]) -> bool {
 pub fn count(tops: &[u32]) -> usize
     ensures { λ r. ⌜ (0 < r) × (r ≤ 32769) ⌝ }
 {
-    let mut digits = [0u32; 8];
+    let mut digits = [0u32; 16];
     let mut x: usize = 1;
     while x < 32769 {
         if !advance(&mut digits, tops) {
@@ -63,11 +53,11 @@ fn one_if_below(p: u32, q: u32) -> u32
 
 // The edges that leave a node: the parts whose digit is below its greatest level.
 fn leaving(digits: &[u32], tops: &[u32]) -> u32
-    ensures { λ r. ⌜ r ≤ 8 ⌝ }
+    ensures { λ r. ⌜ r ≤ 16 ⌝ }
 {
     let mut n: u32 = 0;
     let mut k: usize = 0;
-    while k < 8 {
+    while k < 16 {
         n += one_if_below(nested::part(digits, 0, k), nested::part(tops, 0, k));
         k += 1;
     }
@@ -76,7 +66,7 @@ fn leaving(digits: &[u32], tops: &[u32]) -> u32
 
 // The edges crossed from a node with byte b.
 fn crossed(b: u8, digits: &[u32], tops: &[u32]) -> u32
-    ensures { λ r. ⌜ r ≤ 8 ⌝ }
+    ensures { λ r. ⌜ r ≤ 16 ⌝ }
 {
     if b == 0 {
         return 0;
@@ -87,7 +77,7 @@ fn crossed(b: u8, digits: &[u32], tops: &[u32]) -> u32
 fn equals(table: &[u32], r: usize, digits: &[u32]) -> bool {
     let mut equal = true;
     let mut k: usize = 0;
-    while k < 8 {
+    while k < 16 {
         equal = equal & (nested::part(table, r, k) == nested::part(digits, 0, k));
         k += 1;
     }
@@ -117,7 +107,7 @@ fn byte_of(table: &[u32], rows: usize, digits: &[u32]) -> u8 {
 pub fn fill_nodes(table: &[u32], rows: usize, tops: &[u32], n: usize, nodes: &mut [u8]) -> u32
     requires { ⌜ n ≤ 32768 ⌝ }
 {
-    let mut digits = [0u32; 8];
+    let mut digits = [0u32; 16];
     let mut edges: u32 = 0;
     let mut x: usize = 0;
     while x < n {

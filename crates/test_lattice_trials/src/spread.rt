@@ -1,10 +1,11 @@
 // Which cases came, and how many of them the engine differs in.
 use test_support::show;
 
-// A log: whether it has rows, the number that it is refused by (11 with one crossing fewer than it takes, 0 where it
-// takes none), and whether the engine agrees with the model.
+// A log: whether it has rows, its level parts (0 where it is refused by 8 or 9), the number that it is refused by (11
+// with one crossing fewer than it takes, 0 where it takes none), and whether the engine agrees with the model.
 pub struct Tried {
     pub rows: usize,
+    pub parts: usize,
     pub refusal: u8,
     pub agreed: bool,
 }
@@ -17,6 +18,8 @@ pub struct Spread {
     pub nine: u64,
     pub eleven: u64,
     pub settled: u64,
+    pub many: u64,
+    pub sixteen: u64,
     pub differing: u64,
 }
 
@@ -29,6 +32,8 @@ pub fn none() -> Spread {
         nine: 0,
         eleven: 0,
         settled: 0,
+        many: 0,
+        sixteen: 0,
         differing: 0,
     }
 }
@@ -52,6 +57,8 @@ pub fn with(s: Spread, t: Tried) -> Spread {
         nine: more(s.nine, t.refusal == 9),
         eleven: more(s.eleven, t.refusal == 11),
         settled: more(s.settled, (t.refusal == 11) | (t.refusal == 0)),
+        many: more(s.many, 8 < t.parts),
+        sixteen: more(s.sixteen, t.parts == 16),
         differing: more(s.differing, !t.agreed),
     }
 }
@@ -73,5 +80,7 @@ pub fn show_spread(s: Spread) {
         b"refused 11 with one crossing fewer, accepted with all",
         s.eleven,
     );
+    show_count(b"accepted with more than eight level parts", s.many);
+    show_count(b"accepted with sixteen level parts", s.sixteen);
     show_count(b"differing", s.differing);
 }

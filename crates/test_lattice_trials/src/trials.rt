@@ -8,6 +8,7 @@ use crate::spread::Tried;
 use lattice::LatticeAnswer;
 use preference::PreferenceList;
 use test_support::lent;
+use test_support::levels_apart;
 use test_support::nested;
 
 // What the lent bytes hold before a call.
@@ -76,6 +77,7 @@ fn refuses_marks(list: PreferenceList, log: &[i32]) -> bool {
 fn refused_by(list: PreferenceList, log: &[i32], refusal: u8) -> Tried {
     Tried {
         rows: log.len() / 8,
+        parts: 0,
         refusal: refusal,
         agreed: refuses(list, log, 48, 32776, refusal)
             & refuses(list, log, 48, 0, refusal)
@@ -93,7 +95,14 @@ fn refuses_11(list: PreferenceList, log: &[i32], budget: u32, n: usize) -> bool 
 
 // The call with the crossings that the model counts over n nodes as its budget, with one fewer, and with one byte
 // fewer.
-fn settled(list: PreferenceList, log: &[i32], table: &[u32], tops: &[u32], n: usize) -> Tried
+fn settled(
+    list: PreferenceList,
+    log: &[i32],
+    table: &[u32],
+    tops: &[u32],
+    parts: usize,
+    n: usize,
+) -> Tried
     requires { ⌜ (0 < n) × (n ≤ 32768) ⌝ }
 {
     let rows = log.len() / 8;
@@ -106,12 +115,14 @@ fn settled(list: PreferenceList, log: &[i32], table: &[u32], tops: &[u32], n: us
     if edges == 0 {
         return Tried {
             rows: rows,
+            parts: parts,
             refusal: 0,
             agreed: good,
         };
     }
     Tried {
         rows: rows,
+        parts: parts,
         refusal: 11,
         agreed: good & refuses_11(list, log, edges - 1, n),
     }
@@ -121,15 +132,15 @@ fn tried(list: PreferenceList, log: &[i32]) -> Tried {
     if nested::strays(list, log) {
         return refused_by(list, log, 8);
     }
-    let mut table = [0u32; 320];
-    let mut tops = [0u32; 8];
+    let mut table = [0u32; 640];
+    let mut tops = [0u32; 16];
     nested::fill_levels(list, log, &mut table);
-    model::fill_tops(list, &mut tops);
+    let parts = levels_apart::fill_tops(list, &mut tops);
     let n = model::count(&tops);
     if 32768 < n {
         return refused_by(list, log, 9);
     }
-    settled(list, log, &table, &tops, n)
+    settled(list, log, &table, &tops, parts, n)
 }
 
 // The same of the first rows of a log.

@@ -4,6 +4,7 @@ use crate::answers;
 use crate::lists;
 use lattice::LatticeAnswer;
 use preference::PreferenceList;
+use test_support::short_logs;
 use test_support::show;
 
 fn run_bytes(list: PreferenceList, nodes: &mut [u8]) -> LatticeAnswer {
@@ -91,4 +92,30 @@ pub fn of_003() {
     show_count(b"003 Ex. 10, M 4 4:", lists::two(4, 4), 25);
     show_count(b"003 Ex. 12, M 5 5:", lists::two(5, 5), 36);
     show_count(b"003 Ex. 14, M 16 16:", lists::two(16, 16), 289);
+}
+
+fn pairs() {
+    show_count(b"000 Ex. 20, kind 08 with M 5:", lists::pair(5), 36);
+    show_count(
+        b"02 order 2, Harbour log, M 10 7 7:",
+        short_logs::harbour_pairs(),
+        704,
+    );
+    show_count(b"02 order 2, kind 08 with M 180:", lists::pair(180), 32761);
+    show_too_many(b"02 order 2, kind 08 with M 181:", lists::pair(181));
+}
+
+pub fn of_02() {
+    pairs();
+    show_count(
+        b"02 order 2, fifteen parts with M 1:",
+        lists::fifteen(),
+        32768,
+    );
+    show_count(
+        b"02 order 2, sixteen parts, two with M 0:",
+        lists::sixteen(1),
+        16384,
+    );
+    show_too_many(b"02 order 2, sixteen parts with M 1:", lists::sixteen(0));
 }

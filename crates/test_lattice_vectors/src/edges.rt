@@ -15,7 +15,7 @@ fn run_best(list: PreferenceList, budget: u32) -> LatticeAnswer {
 }
 
 // The edges of one part: its level is below m at m of m + 1 nodes.
-fn part_edges(n: u32, m: u16) -> u64
+pub fn part_edges(n: u32, m: u16) -> u64
     ensures { λ r. ⌜ r ≤ 4294967295 ⌝ }
 {
     let wide = m as u64;
@@ -50,4 +50,19 @@ pub fn of_000() {
     show_three(b"000 Ex. 15, edges of M 20 20 20:", 9261, 20, 20, 20, 26460);
     let two = part_edges(12, 3) + part_edges(12, 2);
     show_edges(b"000 Ex. 34, edges of M 3 2:", lists::two(3, 2), 17, two);
+}
+
+pub fn of_02() {
+    show_edges(
+        b"02 order 2, edges of fifteen parts with M 1:",
+        lists::fifteen(),
+        245760,
+        15 * part_edges(32768, 1),
+    );
+    show_edges(
+        b"02 order 2, edges of sixteen parts, two with M 0:",
+        lists::sixteen(1),
+        114688,
+        14 * part_edges(16384, 1),
+    );
 }

@@ -1,5 +1,5 @@
-// What documents 000 and 003 say of lattices, and the Harbour log, through the lattice engine. Each line begins with
-// its source, and the file stdout holds the documents' figures.
+// What documents 000, 003 and 02 say of lattices, and the Harbour log, through the lattice engine. Each line begins
+// with its source, and the file stdout holds the documents' figures.
 mod answers;
 mod counts;
 mod edges;
@@ -15,4 +15,12 @@ fn main() {
     numbers::of_000();
     table::of_000();
     harbour::of_01();
+    of_02();
+}
+
+fn of_02() {
+    counts::of_02();
+    edges::of_02();
+    numbers::of_02();
+    harbour::of_02();
 }

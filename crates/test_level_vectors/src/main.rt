@@ -1,5 +1,8 @@
-// Runs the level vectors of documents 000 and 003 and prints the levels that come back. The file stdout holds the
-// documents' figures.
+// Runs the level vectors of documents 000 and 003 and prints the levels that come back, each with its side, and the
+// pairs of levels of kind 08. The file stdout holds the documents' figures.
+mod pairs;
+mod sides;
+
 use test_support::show;
 use test_support::trial;
 
@@ -76,35 +79,13 @@ fn layered() {
     trial::show_levels(b"the first of two namings counts:", twice, &[8]);
 }
 
-// Both ends of 32 bits.
-fn ends() {
-    let lowest = trial::single(trial::lowest(-2147483648, 2147483647, 65537));
-    trial::show_levels(
-        b"every value, lowest:",
-        lowest,
-        &[-2147483648, -2147483647, 0, 2147483647],
-    );
-    let highest = trial::single(trial::highest(-2147483648, 2147483647, 4294967295));
-    trial::show_levels(
-        b"every value, highest:",
-        highest,
-        &[-2147483648, 0, 2147483646, 2147483647],
-    );
-    let around = trial::single(trial::around(-2147483648, 2147483647, 65537, 2147483647));
-    trial::show_levels(
-        b"every value, around:",
-        around,
-        &[-2147483648, 2147483582, 2147483647],
-    );
-    let one = trial::single(trial::between(5, 5, 1, 5, 5));
-    trial::show_levels(b"one value:", one, &[4, 5, 6]);
-}
-
 fn main() {
     around();
     between();
     greatest();
     table_6_5();
     layered();
-    ends();
+    pairs::of_documents();
+    sides::small();
+    sides::every_value();
 }

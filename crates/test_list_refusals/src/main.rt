@@ -1,6 +1,9 @@
 // Runs the entries of document 01's refusal table that a list in memory can have, and both orders of two faults. A line
 // prints the number of the list's check and what the level of 0 at place 0 comes back as. The file stdout holds what
-// document 01 says.
+// documents 01 and 02 say.
+mod pairs;
+
+use constructor::Constructor;
 use preference::PreferenceList;
 use test_support::show;
 use test_support::trial;
@@ -9,9 +12,8 @@ fn good() -> PreferenceList {
     trial::single(trial::lowest(0, 100, 10))
 }
 
-// Eight preferences, one to a column.
-fn eight() -> PreferenceList {
-    let c = trial::lowest(0, 100, 10);
+// Eight preferences of one form, one to a column.
+fn eight(c: Constructor) -> PreferenceList {
     let two = trial::with(trial::with(trial::none(), 0, c), 1, c);
     let four = trial::with(trial::with(two, 2, c), 3, c);
     let six = trial::with(trial::with(four, 4, c), 5, c);
@@ -19,11 +21,12 @@ fn eight() -> PreferenceList {
 }
 
 fn lists() {
+    let full = eight(trial::lowest(0, 100, 10));
     trial::show_list(b"no wish:", trial::none());
-    trial::show_list(b"eight wishes:", eight());
+    trial::show_list(b"eight wishes:", full);
     trial::show_list(
         b"a count of 9:",
-        trial::with(eight(), 0, trial::lowest(0, 100, 10)),
+        trial::with(full, 0, trial::lowest(0, 100, 10)),
     );
     trial::show_list(
         b"column 8:",
@@ -199,4 +202,5 @@ fn main() {
     named_orders();
     values();
     places();
+    pairs::all();
 }

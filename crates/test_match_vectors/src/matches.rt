@@ -88,7 +88,7 @@ pub fn show_windows(label: &[u8], list: PreferenceList, log: &[i32]) {
 fn level_of(list: PreferenceList, place: u32, value: i32) -> u64 {
     let answer = levels::level(list, place, value);
     match answer {
-        LevelAnswer::Level(n) => n as u64,
+        LevelAnswer::Level(n, _) => n as u64,
         LevelAnswer::Refused(_) => 1000000,
     }
 }

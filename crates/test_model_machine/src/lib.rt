@@ -1,5 +1,5 @@
 // The window machine of document 01, written apart from the engine, for the programs that try it.
-// Level vectors lie in a table of eight parts each. A row's place is 0 outside, 1 in the window, 2 in the result; its
+// Level vectors lie in a table of sixteen parts each. A row's place is 0 outside, 1 in the window, 2 in the result; its
 // stamp is 0 until it was read. One queue of rows serves all passes: what a pass sets aside is read after all that the
 // pass reads.
 
@@ -30,17 +30,17 @@ fn level(table: &[u32], row: usize, k: usize) -> u32 {
     if 4096 <= row {
         return 0;
     }
-    if 8 <= k {
+    if 16 <= k {
         return 0;
     }
-    get(table, 8 * row + k)
+    get(table, 16 * row + k)
 }
 
 // Whether row a has a level below row b's.
 fn is_lower(table: &[u32], a: usize, b: usize) -> bool {
     let mut found = false;
     let mut k: usize = 0;
-    while k < 8 {
+    while k < 16 {
         found = found | (level(table, a, k) < level(table, b, k));
         k += 1;
     }

@@ -1,4 +1,4 @@
-// One to eight preferences of the five forms, on columns that follow each other.
+// One to eight preferences of the six forms, on columns that follow each other.
 ghost use Prim.Native.Nat.{_<_, _≤_};
 use crate::figures;
 use crate::trial;
@@ -18,8 +18,16 @@ pub fn column_of(seed: u32, k: u32) -> u32
     (figures::upto(seed, 4, 7) + k % 8) % 8
 }
 
-// 0 LOWEST, 1 HIGHEST, 2 AROUND, 3 BETWEEN, 4 LAYERED.
-pub fn form_of(seed: u32, column: u32) -> u32 {
+// Whether all wishes are of kind 08: one list of seven, so that eight of them, which give 16 level parts, come too.
+fn all_pairs(seed: u32) -> bool {
+    figures::upto(seed, 11, 6) == 0
+}
+
+// 0 LOWEST, 1 HIGHEST, 2 AROUND, 3 BETWEEN, 4 LAYERED, 5 kind 08, which is more than one wish of four.
+fn form_of(seed: u32, column: u32) -> u32 {
+    if all_pairs(seed) | (figures::upto(seed, 96 + column % 8, 5) == 0) {
+        return 5;
+    }
     figures::upto(seed, 88 + column % 8, 4)
 }
 
@@ -36,38 +44,49 @@ pub fn lo_of(seed: u32, column: u32) -> u32
     figures::upto(seed, 24 + column % 8, 8) + 5
 }
 
-// At most three steps, and six in one list of four, so that M is 0 to 6 and some lists have more nodes than are taken.
-fn reach_of(seed: u32, step: u32) -> u32
-    requires { ⌜ step ≤ 3 ⌝ }
+// Three steps; two under kind 08, whose nodes are M + 1 squared, and one where all wishes are of it.
+fn span_of(seed: u32, column: u32) -> u32
+    ensures { λ r. ⌜ r ≤ 9 ⌝ }
+{
+    let step = step_of(seed, column);
+    if form_of(seed, column) != 5 {
+        return 3 * step;
+    }
+    if all_pairs(seed) { step } else { 2 * step }
+}
+
+// Twice as many in one list of four, so that M is 0 to 6 and some lists have more nodes than are taken.
+fn reach_of(seed: u32, span: u32) -> u32
+    requires { ⌜ span ≤ 9 ⌝ }
     ensures { λ r. ⌜ r ≤ 18 ⌝ }
 {
     if figures::upto(seed, 10, 3) == 0 {
-        6 * step
+        2 * span
     } else {
-        3 * step
+        span
     }
 }
 
 pub fn width_of(seed: u32, column: u32) -> u32
     ensures { λ r. ⌜ r ≤ 18 ⌝ }
 {
-    let most = reach_of(seed, step_of(seed, column));
+    let most = reach_of(seed, span_of(seed, column));
     figures::upto(seed, 32 + column % 8, most as u16)
 }
 
-fn between_of(seed: u32, column: u32, lo: u32, width: u32, step: u32) -> Constructor
+// BETWEEN, or kind 08 over the same range.
+fn between_of(seed: u32, column: u32, form: u32, lo: u32, width: u32, step: u32) -> Constructor
     requires { ⌜ (column < 8) × (lo ≤ 13) × (width ≤ 18) ⌝ }
 {
-    let low = figures::upto(seed, 40 + column, width as u16);
-    let up = low + figures::upto(seed, 48 + column, (width - low) as u16);
+    let below = figures::upto(seed, 40 + column, width as u16);
+    let across = figures::upto(seed, 48 + column, (width - below) as u16);
     let hi = lo + width;
-    trial::between(
-        lo as i32,
-        hi as i32,
-        step,
-        (lo + low) as i32,
-        (lo + up) as i32,
-    )
+    let low = (lo + below) as i32;
+    let up = (lo + below + across) as i32;
+    if form == 5 {
+        return trial::between_trivial(lo as i32, hi as i32, step, low, up);
+    }
+    trial::between(lo as i32, hi as i32, step, low, up)
 }
 
 fn around_of(seed: u32, column: u32, lo: u32, width: u32, step: u32) -> Constructor
@@ -78,7 +97,7 @@ fn around_of(seed: u32, column: u32, lo: u32, width: u32, step: u32) -> Construc
     trial::around(lo as i32, hi as i32, step, z as i32)
 }
 
-// One of the four forms that go by distance.
+// One of the five forms that go by distance.
 fn numeric_of(seed: u32, column: u32, form: u32) -> Constructor
     requires { ⌜ column < 8 ⌝ }
 {
@@ -95,7 +114,7 @@ fn numeric_of(seed: u32, column: u32, form: u32) -> Constructor
     if form == 2 {
         return around_of(seed, column, lo, width, step);
     }
-    between_of(seed, column, lo, width, step)
+    between_of(seed, column, form, lo, width, step)
 }
 
 // LAYERED with layers up to 1, 2 or 3, and two named values.

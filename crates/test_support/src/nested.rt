@@ -1,4 +1,5 @@
-// Refusal 8 and marks, by comparing every row with every row. Level vectors lie in tables of eight parts each.
+// Refusal 8 and marks, by comparing every row with every row. Level vectors lie in tables of sixteen parts
+// each, 0 past a list's last.
 ghost use Prim.Native.Nat.{_≤_};
 use crate::levels_apart;
 use constructor::Constructor;
@@ -18,11 +19,11 @@ pub fn value(log: &[i32], row: usize, column: usize) -> i32 {
 
 // Part k of a vector of a table; 0 past the table.
 pub fn part(table: &[u32], vector: usize, k: usize) -> u32 {
-    if 7 < k {
+    if 15 < k {
         return 0;
     }
-    if vector < table.len() / 8 {
-        let at = 8 * vector + k;
+    if vector < table.len() / 16 {
+        let at = 16 * vector + k;
         return table[at];
     }
     0
@@ -52,6 +53,13 @@ fn is_outside(c: Constructor, v: i32) -> bool {
             up: _,
         } => past(lo, hi, v),
         Constructor::Layered { top: _, others: _ } => false,
+        Constructor::BetweenTrivial {
+            lo,
+            hi,
+            step: _,
+            low: _,
+            up: _,
+        } => past(lo, hi, v),
     }
 }
 
@@ -97,12 +105,19 @@ pub fn strays(list: PreferenceList, log: &[i32]) -> bool {
 
 // ---- levels
 
-// The level vector of each row.
+fn fill_vector(list: PreferenceList, log: &[i32], row: usize, table: &mut [u32]) {
+    if row < table.len() / 16 {
+        let from = 16 * row;
+        levels_apart::fill_row(list, log, row, &mut table[from..]);
+    }
+}
+
+// The level vector of each row, in a table of zeros.
 pub fn fill_levels(list: PreferenceList, log: &[i32], table: &mut [u32]) {
-    let mut i: usize = 0;
-    while i < table.len() {
-        table[i] = levels_apart::part(list, log, i / 8, i % 8);
-        i += 1;
+    let mut r: usize = 0;
+    while r < log.len() / 8 {
+        fill_vector(list, log, r, table);
+        r += 1;
     }
 }
 
@@ -113,7 +128,7 @@ pub fn beats(x: &[u32], a: usize, y: &[u32], b: usize) -> bool {
     let mut below = false;
     let mut above = false;
     let mut k: usize = 0;
-    while k < 8 {
+    while k < 16 {
         let p = part(x, a, k);
         let q = part(y, b, k);
         below = below | (p < q);

@@ -56,6 +56,12 @@ pub fn harbour_list() -> PreferenceList {
     trial::with(one, 2, trial::around(1000, 1600, 50, 1250))
 }
 
+// The same with kind 08 for AROUND.
+pub fn harbour_pairs() -> PreferenceList {
+    let one = trial::with(trial::none(), 1, trial::highest(0, 1000, 100));
+    trial::with(one, 2, trial::between_trivial(1000, 1600, 50, 1250, 1250))
+}
+
 // LOWEST over 0 to m by 1 on columns 1 and 2: the figures there are the levels.
 pub fn two_lowest(m: i32) -> PreferenceList {
     let one = trial::with(trial::none(), 1, trial::lowest(0, m, 1));

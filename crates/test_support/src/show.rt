@@ -10,6 +10,15 @@ pub fn number(n: u64) {
     io::print_decimal(STDOUT_FILENO, n);
 }
 
+// Two numbers in brackets, as the documents print pairs of levels.
+pub fn pair(a: u64, b: u64) {
+    io::write_all(STDOUT_FILENO, b" (");
+    io::print_decimal(STDOUT_FILENO, a);
+    io::write_all(STDOUT_FILENO, b",");
+    io::print_decimal(STDOUT_FILENO, b);
+    io::write_all(STDOUT_FILENO, b")");
+}
+
 pub fn end_line() {
     io::write_all(STDOUT_FILENO, b"\n");
 }

@@ -1,6 +1,7 @@
 // Preference lists for the programs that try calls, and what the calls come back as.
 use crate::show;
 use constructor::Constructor;
+use constructor::Side;
 use preference::LevelAnswer;
 use preference::Named;
 use preference::Preference;
@@ -33,6 +34,17 @@ pub fn around(lo: i32, hi: i32, step: u32, z: i32) -> Constructor {
 
 pub fn between(lo: i32, hi: i32, step: u32, low: i32, up: i32) -> Constructor {
     Constructor::Between {
+        lo: lo,
+        hi: hi,
+        step: step,
+        low: low,
+        up: up,
+    }
+}
+
+// Kind 08.
+pub fn between_trivial(lo: i32, hi: i32, step: u32, low: i32, up: i32) -> Constructor {
+    Constructor::BetweenTrivial {
         lo: lo,
         hi: hi,
         step: step,
@@ -123,11 +135,22 @@ fn value_of(from: u8, k: u8) -> i32 {
     (from as u32 + k as u32) as i32
 }
 
-// What the level of a value comes back as.
+fn show_side(side: Side) {
+    match side {
+        Side::Below => show::text(b" below"),
+        Side::Inside => show::text(b" inside"),
+        Side::Above => show::text(b" above"),
+    }
+}
+
+// What the level of a value comes back as, and its side.
 pub fn show_level(list: PreferenceList, place: u32, value: i32) {
     let answer = levels::level(list, place, value);
     match answer {
-        LevelAnswer::Level(n) => show::number(n as u64),
+        LevelAnswer::Level(n, side) => {
+            show::number(n as u64);
+            show_side(side);
+        }
         LevelAnswer::Refused(k) => {
             show::text(b" refused");
             show::number(k as u64);
@@ -135,7 +158,7 @@ pub fn show_level(list: PreferenceList, place: u32, value: i32) {
     }
 }
 
-// The levels of values under the preference at place 0.
+// The levels of values under the preference at place 0, and their sides.
 pub fn show_levels(label: &[u8], list: PreferenceList, values: &[i32]) {
     show::text(label);
     let mut i: usize = 0;
@@ -146,10 +169,16 @@ pub fn show_levels(label: &[u8], list: PreferenceList, values: &[i32]) {
     show::end_line();
 }
 
-// The greatest level of a form.
+// The greatest level of a form, once for each part.
 pub fn show_max(label: &[u8], c: Constructor) {
     show::text(label);
-    show::number(levels::part_max(single(c), 0));
+    let list = single(c);
+    let parts = levels::parts(list);
+    let mut k: usize = 0;
+    while k < parts {
+        show::number(levels::part_max(list, k));
+        k += 1;
+    }
     show::end_line();
 }
 

@@ -4,6 +4,7 @@ use crate::totals;
 use crate::totals::Tally;
 use preference::PreferenceList;
 use test_support::figures;
+use test_support::levels_apart;
 use test_support::lists;
 use test_support::logs;
 use test_support::nested;
@@ -52,14 +53,20 @@ fn refuses_10(list: PreferenceList, log: &[i32]) -> bool {
 
 // What a log adds to the totals: 8 is due where a value lies outside its bounds, else all windows have to agree.
 fn tried(list: PreferenceList, log: &[i32], t: Tally) -> Tally {
-    let mut table = [0u32; 320];
+    let mut table = [0u32; 640];
     nested::fill_levels(list, log, &mut table);
     let short = totals::one_unless(refuses_10(list, log));
     if nested::strays(list, log) {
         return totals::refused(t, short + totals::one_unless(refuses_8(list, log)));
     }
     let other = totals::one_unless(agrees_everywhere(list, log, &table));
-    totals::accepted(t, short + other, &table, log.len() / 8)
+    totals::accepted(
+        t,
+        short + other,
+        &table,
+        log.len() / 8,
+        levels_apart::parts_of(list),
+    )
 }
 
 // The same of the first rows of a log.

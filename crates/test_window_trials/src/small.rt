@@ -54,7 +54,7 @@ fn fill_log(number: u32, log: &mut [i32]) {
 fn fill_table(number: u32, table: &mut [u32]) {
     let mut i: usize = 0;
     while i < table.len() {
-        table[i] = level(number, i / 8, i % 8 + 1);
+        table[i] = level(number, i / 16, i % 16 + 1);
         i += 1;
     }
 }
@@ -69,7 +69,7 @@ fn differs(number: u32, w: u32) -> u64
     ensures { λ r. ⌜ r ≤ 1 ⌝ }
 {
     let mut log = [0i32; 24];
-    let mut table = [0u32; 24];
+    let mut table = [0u32; 48];
     fill_log(number, &mut log);
     fill_table(number, &mut table);
     if calls::agrees(list(), &log, &table, w) {
@@ -82,7 +82,7 @@ fn differs(number: u32, w: u32) -> u64
 fn best(number: u32) -> u64
     ensures { λ r. ⌜ r ≤ 40 ⌝ }
 {
-    let mut table = [0u32; 24];
+    let mut table = [0u32; 48];
     fill_table(number, &mut table);
     totals::best(&table, 3)
 }

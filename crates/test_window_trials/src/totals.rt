@@ -29,11 +29,12 @@ fn compares(table: &[u32], rows: usize, w: u32) -> u32 {
     test_model_machine::run(table, rows, w, &mut marks)
 }
 
-// What was tried so far: differences, refusals by 8, and the shortlisted rows and the compares in all windows of the
-// other logs.
+// What was tried so far: differences, refusals by 8, and of the other logs those of sixteen level parts, the
+// shortlisted rows, and the compares in all windows.
 pub struct Tally {
     pub differing: u64,
     pub refused: u64,
+    pub sixteen: u64,
     pub best: u64,
     pub compares: u64,
 }
@@ -42,13 +43,14 @@ pub fn none() -> Tally {
     Tally {
         differing: 0,
         refused: 0,
+        sixteen: 0,
         best: 0,
         compares: 0,
     }
 }
 
 // Sums stop growing far above what a trial comes to.
-fn add(sum: u64, n: u64) -> u64
+pub fn add(sum: u64, n: u64) -> u64
     requires { ⌜ n ≤ 4294967295 ⌝ }
 {
     if sum < 1000000000000 { sum + n } else { sum }
@@ -71,13 +73,14 @@ pub fn refused(t: Tally, differing: u64) -> Tally
     Tally {
         differing: add(t.differing, differing),
         refused: add(t.refused, 1),
+        sixteen: t.sixteen,
         best: t.best,
         compares: t.compares,
     }
 }
 
-// A log that is accepted, with its level table.
-pub fn accepted(t: Tally, differing: u64, table: &[u32], rows: usize) -> Tally
+// A log that is accepted, with its level table of so many parts.
+pub fn accepted(t: Tally, differing: u64, table: &[u32], rows: usize, parts: usize) -> Tally
     requires { ⌜ differing ≤ 2 ⌝ }
 {
     let one = add_compares(t.compares, table, rows, 1);
@@ -87,6 +90,7 @@ pub fn accepted(t: Tally, differing: u64, table: &[u32], rows: usize) -> Tally
     Tally {
         differing: add(t.differing, differing),
         refused: t.refused,
+        sixteen: add(t.sixteen, one_unless(parts != 16)),
         best: add(t.best, best(table, rows)),
         compares: add_compares(many, table, rows, 1024),
     }
@@ -95,6 +99,8 @@ pub fn accepted(t: Tally, differing: u64, table: &[u32], rows: usize) -> Tally
 pub fn show(t: Tally) {
     show::text(b" refused 8:");
     show::number(t.refused);
+    show::text(b" sixteen parts:");
+    show::number(t.sixteen);
     show::text(b" best");
     show::number(t.best);
     show::text(b" compares");

@@ -1,9 +1,10 @@
 // Tries the window engine on short logs that tell wrong machines apart, on P10, P11 and the Harbour log, and on calls
-// that are refused. The file stdout holds what document 01 says of them.
+// that are refused. The file stdout holds what documents 01 and 02 say of them.
 mod calls;
 
 use calls::MARK;
 use calls::WORD;
+use preference::PreferenceList;
 use test_support::short_logs;
 
 fn three_rows(label: &[u8], threes: &[i32], w: u32) {
@@ -64,19 +65,21 @@ fn no_rows() {
 }
 
 // The Harbour log with room for every window.
-fn harbour(label: &[u8], w: u32) {
+fn harbour_by(label: &[u8], list: PreferenceList, w: u32) {
     let mut log = [0i32; 40];
     let mut marks = [MARK; 5];
     let mut work = [WORD; 2060];
     short_logs::fill_harbour(&mut log);
-    calls::show(
-        label,
-        short_logs::harbour_list(),
-        &log,
-        &mut marks,
-        &mut work,
-        w,
-    );
+    calls::show(label, list, &log, &mut marks, &mut work, w);
+}
+
+fn harbour(label: &[u8], w: u32) {
+    harbour_by(label, short_logs::harbour_list(), w);
+}
+
+// With kind 08 for AROUND.
+fn harbour_pairs(label: &[u8], w: u32) {
+    harbour_by(label, short_logs::harbour_pairs(), w);
 }
 
 fn windows() {
@@ -90,6 +93,12 @@ fn windows() {
     harbour(b"Harbour log, w 0:", 0);
     harbour(b"Harbour log, w 1025:", 1025);
     harbour(b"Harbour log, w 4294967295:", 4294967295);
+}
+
+fn windows_by_pairs() {
+    harbour_pairs(b"Harbour log with kind 08, w 1:", 1);
+    harbour_pairs(b"Harbour log with kind 08, w 2:", 2);
+    harbour_pairs(b"Harbour log with kind 08, w 4:", 4);
 }
 
 // The Harbour log with one figure changed, in lists of these lengths.
@@ -155,6 +164,7 @@ fn main() {
     small();
     no_rows();
     windows();
+    windows_by_pairs();
     rooms();
     odd_log();
 }

@@ -4,10 +4,10 @@ use Rattle.test_model_machine.proofs.is_lower.Statement.{statement}
 use Rattle.test_model_machine.proofs.is_lower.Tie as tie
 
 abbrev Inv-loop : tie.InvT-loop
-Inv-loop table a b found₀ k₀ found k = k ≤ 8
+Inv-loop table a b found₀ k₀ found k = k ≤ 16
 
 abbrev μ-loop : tie.MeasureT-loop
-μ-loop table a b found₀ k₀ found k = 8 - k
+μ-loop table a b found₀ k₀ found k = 16 - k
 
 loop-holds : tie.Need-loop-holds Inv-loop μ-loop
 loop-holds c = search needs

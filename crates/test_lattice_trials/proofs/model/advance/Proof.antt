@@ -6,7 +6,7 @@ use Rattle.test_lattice_trials.proofs.model.advance.Statement.{statemen
 use Rattle.test_lattice_trials.proofs.model.advance.Tie as tie
 
 abbrev Inv-loop : tie.InvT-loop
-Inv-loop digits₀ tops k₀ digits k = (k ≤ 8) × (length digits ≡ length digits₀)
+Inv-loop digits₀ tops k₀ digits k = (k ≤ 16) × (length digits ≡ length digits₀)
 
 abbrev μ-loop : tie.MeasureT-loop
 μ-loop digits₀ tops k₀ digits k = k

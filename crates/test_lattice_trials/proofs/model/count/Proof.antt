@@ -6,7 +6,7 @@ use Rattle.test_lattice_trials.proofs.model.count.Statement.{statement}
 use Rattle.test_lattice_trials.proofs.model.count.Tie as tie
 
 abbrev Inv-loop : tie.InvT-loop
-Inv-loop tops digits₀ x₀ digits x = (0 < x) × (x ≤ 32769) × (length digits ≡ 8)
+Inv-loop tops digits₀ x₀ digits x = (0 < x) × (x ≤ 32769) × (length digits ≡ 16)
 
 abbrev μ-loop : tie.MeasureT-loop
 μ-loop tops digits₀ x₀ digits x = 32769 - x

@@ -7,7 +7,7 @@ abbrev Inv-loop : tie.InvT-loop
 Inv-loop table r digits equal₀ k₀ equal k = Unit {0}
 
 abbrev μ-loop : tie.MeasureT-loop
-μ-loop table r digits equal₀ k₀ equal k = 8 - k
+μ-loop table r digits equal₀ k₀ equal k = 16 - k
 
 loop-holds : tie.Need-loop-holds Inv-loop μ-loop
 loop-holds c = search needs

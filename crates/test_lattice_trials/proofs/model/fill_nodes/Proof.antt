@@ -7,7 +7,7 @@ use Rattle.test_lattice_trials.proofs.model.fill_nodes.Tie as tie
 
 abbrev Inv-loop : tie.InvT-loop
 Inv-loop table rows tops n nodes₀ digits₀ edges₀ x₀ nodes digits edges x =
-    (n ≤ 32768) × (x ≤ n) × (edges ≤ 8 * x) × (length digits ≡ 8) × (length nodes ≡ length nodes₀)
+    (n ≤ 32768) × (x ≤ n) × (edges ≤ 16 * x) × (length digits ≡ 16) × (length nodes ≡ length nodes₀)
 
 abbrev μ-loop : tie.MeasureT-loop
 μ-loop table rows tops n nodes₀ digits₀ edges₀ x₀ nodes digits edges x = n - x

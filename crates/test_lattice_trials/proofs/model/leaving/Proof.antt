@@ -4,10 +4,10 @@ use Rattle.test_lattice_trials.proofs.model.leaving.Statement.{statemen
 use Rattle.test_lattice_trials.proofs.model.leaving.Tie as tie
 
 abbrev Inv-loop : tie.InvT-loop
-Inv-loop digits tops n₀ k₀ n k = (k ≤ 8) × (n ≤ k)
+Inv-loop digits tops n₀ k₀ n k = (k ≤ 16) × (n ≤ k)
 
 abbrev μ-loop : tie.MeasureT-loop
-μ-loop digits tops n₀ k₀ n k = 8 - k
+μ-loop digits tops n₀ k₀ n k = 16 - k
 
 loop-holds : tie.Need-loop-holds Inv-loop μ-loop
 loop-holds c = search needs

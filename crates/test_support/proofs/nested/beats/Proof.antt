@@ -7,7 +7,7 @@ abbrev Inv-loop : tie.InvT-loop
 Inv-loop x a y b below₀ above₀ k₀ below above k = Unit {0}
 
 abbrev μ-loop : tie.MeasureT-loop
-μ-loop x a y b below₀ above₀ k₀ below above k = 8 - k
+μ-loop x a y b below₀ above₀ k₀ below above k = 16 - k
 
 loop-holds : tie.Need-loop-holds Inv-loop μ-loop
 loop-holds c = search needs

@@ -4,28 +4,21 @@ use mathlib.Core.Path.{_≡_}
 use lib.ListN.{length}
 use Rattle.test_support.proofs.nested.fill_levels.Statement.{statement}
 use Rattle.test_support.proofs.nested.fill_levels.Tie as tie
-use Rattle.test_support.proofs.levels_apart.part.Reads as part-reads
 
 abbrev Inv-loop : tie.InvT-loop
-Inv-loop list log table₀ i₀ table i = length table ≡ length table₀
+Inv-loop list log table₀ r₀ table r = length table ≡ length table₀
 
 abbrev μ-loop : tie.MeasureT-loop
-μ-loop list log table₀ i₀ table i = length table₀ - i
+μ-loop list log table₀ r₀ table r = length log - r
 
 loop-holds : tie.Need-loop-holds Inv-loop μ-loop
 loop-holds c = search needs
 
-part-requires : tie.Need-part-requires Inv-loop μ-loop
-part-requires c κs = search needs
+fill-vector-requires : tie.Need-fill-vector-requires Inv-loop μ-loop
+fill-vector-requires c κs = search needs
 
-mul-table : tie.Need-mul-table Inv-loop μ-loop
-mul-table c = search needs
-
-slice-write-table : tie.Need-slice-write-table Inv-loop μ-loop
-slice-write-table c = search needs
-
-add-i : tie.Need-add-i Inv-loop μ-loop
-add-i c = search needs
+add-r : tie.Need-add-r Inv-loop μ-loop
+add-r c = search needs
 
 loop-less : tie.Need-loop-less Inv-loop μ-loop
 loop-less c = search needs
@@ -46,10 +39,8 @@ fill-levels-spec =
     Inv-loop
     μ-loop
     loop-holds
-    part-requires
-    mul-table
-    slice-write-table
-    add-i
+    fill-vector-requires
+    add-r
     loop-less
     loop-again
     same-length

@@ -1,27 +1,21 @@
 use borrow.Author.Needs.{needs}
-use Prim.Native.Nat.{_-_}
+use Prim.Native.Nat.{_≤_, _-_, _*_}
 use mathlib.Core.Path.{_≡_}
 use lib.ListN.{length}
-use Rattle.test_lattice_trials.proofs.model.fill_tops.Statement.{statement}
-use Rattle.test_lattice_trials.proofs.model.fill_tops.Tie as tie
+use Rattle.test_support.proofs.levels_apart.fill_tops.Statement.{statement}
+use Rattle.test_support.proofs.levels_apart.fill_tops.Tie as tie
 
 abbrev Inv-loop : tie.InvT-loop
-Inv-loop list tops₀ k₀ tops k = length tops ≡ length tops₀
+Inv-loop list vector₀ at₀ k₀ vector at k = (k ≤ 8) × (at ≤ 2 * k) × (length vector ≡ length vector₀)
 
 abbrev μ-loop : tie.MeasureT-loop
-μ-loop list tops₀ k₀ tops k = length tops₀ - k
+μ-loop list vector₀ at₀ k₀ vector at k = 8 - k
 
 loop-holds : tie.Need-loop-holds Inv-loop μ-loop
 loop-holds c = search needs
 
-top-requires : tie.Need-top-requires Inv-loop μ-loop
-top-requires c κs = search needs
-
-mul-tops : tie.Need-mul-tops Inv-loop μ-loop
-mul-tops c = search needs
-
-slice-write-tops : tie.Need-slice-write-tops Inv-loop μ-loop
-slice-write-tops c = search needs
+put-top-requires : tie.Need-put-top-requires Inv-loop μ-loop
+put-top-requires c κs = search needs
 
 add-k : tie.Need-add-k Inv-loop μ-loop
 add-k c = search needs
@@ -45,9 +39,7 @@ fill-tops-spec =
     Inv-loop
     μ-loop
     loop-holds
-    top-requires
-    mul-tops
-    slice-write-tops
+    put-top-requires
     add-k
     loop-less
     loop-again
