@@ -1,4 +1,6 @@
 // Exact arithmetic on values of 32 bits: how far one lies above another, and division rounded up.
+#![tactic(auto)]
+
 ghost use Rattle.std.specs.Prelude.{◌≡◌, ◌+◌, ◌-◌, ◌<◌};
 ghost use Rattle.std.specs.Int.Signed.{le_z};
 ghost use Rattle.limits.specs.Limits.{u32_end};

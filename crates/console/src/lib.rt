@@ -1,4 +1,6 @@
 // The flat calls: what a display written in C links to. include/shortlist.h says in words what the contracts here say.
+#![tactic(auto)]
+
 ghost use Rattle.std.specs.Prelude.{◌≡◌, length};
 ghost use Rattle.laws.specs.Outcome.{refused};
 ghost use Rattle.pareto.specs.Call.{Leaves};

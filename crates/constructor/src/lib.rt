@@ -1,6 +1,8 @@
 // Base preference constructors (000, section 3.1.1): what document 01 calls the forms of a wish. Distance, level, side,
 // greatest level and the checks 6, 7 and 3 of one form. Levels and checks go by its cases here alone; the reader makes
 // and the writer takes them.
+#![tactic(auto)]
+
 ghost use Rattle.std.specs.Prelude.{◌≡◌, ◌+◌, ◌-◌, max, get_or};
 ghost use Rattle.arith.specs.Gap.{gap};
 ghost use Rattle.arith.specs.Ceil.{ceil_div};
@@ -13,7 +15,7 @@ const LEAST: i32 = -2147483648;
 
 const GREATEST: i32 = 2147483647;
 
-#[derive(Drop)]
+#[derive(Clone, Copy)]
 pub enum Constructor {
     Lowest {
         lo: i32,
@@ -53,7 +55,7 @@ pub enum Constructor {
 }
 
 // The values that a form takes, lo to hi, and its step. LAYERED takes every value.
-#[derive(Drop)]
+#[derive(Clone, Copy)]
 pub struct Scale {
     pub lo: i32,
     pub hi: i32,
@@ -61,14 +63,14 @@ pub struct Scale {
 }
 
 // The values at distance 0, low to up: every distance is how far a value lies outside them.
-#[derive(Drop)]
+#[derive(Clone, Copy)]
 pub struct Target {
     pub low: i32,
     pub up: i32,
 }
 
 // Where a value lies: below the values at distance 0, among them, or above them.
-#[derive(Drop)]
+#[derive(Clone, Copy)]
 pub enum Side {
     Below,
     Inside,
@@ -76,7 +78,7 @@ pub enum Side {
 }
 
 // What decides a level: the distance, or the layers of named values.
-#[derive(Drop)]
+#[derive(Clone, Copy)]
 pub enum Layering {
     Numeric,
     Layers { top: u8, others: u8 },

@@ -1,4 +1,6 @@
 // Which run beat a row: the first row of the shortlist that betters it.
+#![tactic(auto)]
+
 ghost use Rattle.std.specs.Prelude.{◌≡◌};
 ghost use Rattle.laws.specs.Lists.{any_of};
 ghost use Rattle.run_log.specs.Log.{log_of};
@@ -9,7 +11,7 @@ ghost use Rattle.dominator.specs.Engine.{Answered};
 use preference::PreferenceList;
 
 // A row of the shortlist that betters the asked one, or the number that the call is refused by.
-#[derive(Drop)]
+#[derive(Clone, Copy)]
 pub enum DominatorAnswer {
     Row(u32),
     Refused(u8),

@@ -1,5 +1,7 @@
 // Inside the walk of the lattice engine (000, 6.1): edges crossed on node bytes from one block or row to the next, as
 // far as the budget is enough.
+#![tactic(auto)]
+
 ghost use Rattle.std.specs.Prelude.{◌≡◌, ℕ, ◌+◌, ◌<◌, ◌≤◌, cond, eqb, length, get_or};
 ghost use Rattle.limits.specs.Limits.{max_nodes};
 ghost use Rattle.lattice_nodes.specs.Steps.{stage_edges, onward_edges, row_edges, updated, entered_byte};

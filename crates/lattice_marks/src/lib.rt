@@ -1,5 +1,7 @@
 // The lattice engine on weights and node numbers: it marks the nodes that rows hold, walks over the nodes, and reads
 // each row's mark from its node.
+#![tactic(auto)]
+
 ghost use Rattle.std.specs.Prelude.{◌≡◌, length, get_or, set};
 ghost use Rattle.lattice_nodes.specs.Steps.{updated, held_byte, byte_mark, marked_by};
 ghost use Rattle.lattice_walk.specs.Blocks.{Small};

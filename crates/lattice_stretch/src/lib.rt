@@ -1,11 +1,13 @@
 // Inside the walk of the lattice engine (000, 6.1): edges crossed to nodes whose bytes stand side by side, as far as
 // the budget is enough; and the first reached node found.
+#![tactic(auto)]
+
 ghost use Rattle.std.specs.Prelude.{◌≡◌, ℕ, ◌+◌, ◌/◌, ◌<◌, ◌≤◌, map, false, length, get_or, drop};
 ghost use Rattle.lattice_nodes.specs.Steps.{first_reached, stretch, part_edges, entered_byte};
 ghost use Rattle.lattice_stretch.specs.Progress.{Crosses, Split};
 
 // What crossing edges came to: whether the budget was enough, and the crossings made.
-#[derive(Drop)]
+#[derive(Clone, Copy)]
 pub struct Progress {
     pub ok: bool,
     pub made: u32,

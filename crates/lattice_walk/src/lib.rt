@@ -1,5 +1,7 @@
 // The walk of the lattice engine (000, 6.1), on weights and node bytes: upward over the edges that leave reached nodes,
 // a recursion over the parts that has `lattice_stretch` and `lattice_crossing` cross them.
+#![tactic(auto)]
+
 ghost use Rattle.std.specs.Prelude.{◌≡◌, ◌≤◌, length, get_or};
 ghost use Rattle.lattice_nodes.specs.Steps.{trail};
 ghost use Rattle.lattice_stretch.specs.Progress.{Crosses};

@@ -1,4 +1,6 @@
 // The layer of a value under a LAYERED preference: that of the first NAMED with the value, or that of other values.
+#![tactic(auto)]
+
 ghost use Rattle.std.specs.Prelude.{◌≡◌, ℕ, ◌+◌, ◌<◌, ◌≤◌, min, false, cond, eqb, length};
 ghost use Rattle.limits.specs.Limits.{max_named};
 ghost use Rattle.laws.specs.First.{first_at};

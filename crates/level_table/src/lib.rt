@@ -2,6 +2,8 @@
 // only by what is promised here of a whole log, by the same `levels` as the level call, and by the greatest levels
 // (`levels::parts`, `levels::part_max`). What decides a part is taken out of the list once; then one loop goes over the
 // rows.
+#![tactic(auto)]
+
 ghost use Rattle.std.specs.Prelude.{◌≡◌, ◌*◌, ◌≤◌, pos, get_or, length};
 ghost use Rattle.std.proofs.lemmas.List.Edits.{sets};
 ghost use Rattle.limits.specs.Limits.{columns};
@@ -15,7 +17,7 @@ use preference::PreferenceList;
 
 // What decides a part of a level vector: the values of a column, by their distance from low..up or by layers; of a
 // pair, which of its parts it is.
-#[derive(Drop)]
+#[derive(Clone, Copy)]
 struct Rule {
     column: usize,
     low: i32,

@@ -1,5 +1,7 @@
 // What a preference list says of a value and of a run: the level and the side of a value, and the level vector of a
 // run.
+#![tactic(auto)]
+
 ghost use Rattle.std.specs.Prelude.{◌≡◌, ◌<◌, ◌≤◌, pos, get_or, length, not};
 ghost use Rattle.constructor.specs.Level.{inside};
 ghost use Rattle.limits.specs.Limits.{max_wishes};

@@ -1,5 +1,6 @@
 // The limits of document 01, under the names that include/shortlist.h gives them.
 // specs/Limits.antt has the same numbers for specifications, each with its sentence.
+#![tactic(auto)]
 
 // How many numbers a row has.
 pub const COLUMNS: usize = 8;

@@ -1,5 +1,7 @@
 // Dominance, best matches and marks (specs/), and what engines ask of a list and a log: their checks, the rows that
 // compete, and how two rows of a level table stand.
+#![tactic(auto)]
+
 ghost use Rattle.std.specs.Prelude.{◌≡◌, ◌+◌, ◌≤◌, length, set, true, false, ◌||◌};
 ghost use Rattle.std.proofs.lemmas.List.Edits.{sets};
 ghost use Rattle.limits.specs.Limits.{columns};
@@ -115,7 +117,7 @@ fn relation_of(first: bool, second: bool) -> u8
 }
 
 // Whether each of two rows has a level below the other's, and how they stand by that.
-#[derive(Drop)]
+#[derive(Clone, Copy)]
 pub struct Lower {
     pub first: bool,
     pub second: bool,

@@ -1,5 +1,7 @@
 // The preference list (document 01: wish list): its types and its check. Its specs say too what `layers` and `levels`
 // answer.
+#![tactic(auto)]
+
 ghost use Rattle.std.specs.Prelude.{◌≡◌, ◌<◌, ◌≤◌, min};
 ghost use Rattle.limits.specs.Limits.{max_wishes, max_named};
 ghost use Rattle.laws.specs.Checks.{◌then◌};
@@ -10,14 +12,14 @@ ghost use Rattle.preference.specs.Valid.{list_refusal};
 use constructor::{Constructor, Side};
 
 // A wish: the column that it is about, and its form.
-#[derive(Drop)]
+#[derive(Clone, Copy)]
 pub struct Preference {
     pub column: u8,
     pub constructor: Constructor,
 }
 
 // A named value: the place of its preference, the value, and its layer.
-#[derive(Drop)]
+#[derive(Clone, Copy)]
 pub struct Named {
     pub preference: u8,
     pub value: i32,
@@ -26,7 +28,7 @@ pub struct Named {
 
 // The first `count` preferences and the first `namedcount` named values are the list; what stands past them is no
 // part of it. The fields are wide enough to hold figures that are refused.
-#[derive(Drop)]
+#[derive(Clone, Copy)]
 pub struct PreferenceList {
     pub count: u32,
     pub preferences: [Preference; limits::MAX_WISHES],
@@ -40,14 +42,14 @@ pub const MAX_COUNT: u32 = limits::MAX_WISHES as u32;
 pub const MAX_NAMED_COUNT: u32 = limits::MAX_NAMED as u32;
 
 // The level of a value and its side, or the number that the call is refused by.
-#[derive(Drop)]
+#[derive(Clone, Copy)]
 pub enum LevelAnswer {
     Level(u32, Side),
     Refused(u8),
 }
 
 // The named values of one preference, in the list's order: the first `count` places.
-#[derive(Drop)]
+#[derive(Clone, Copy)]
 pub struct Names {
     pub count: usize,
     pub values: [i32; limits::MAX_NAMED],
@@ -55,7 +57,7 @@ pub struct Names {
 }
 
 // Where a part of the level vectors is found: the place of its preference, and which of the preference's parts it is.
-#[derive(Drop)]
+#[derive(Clone, Copy)]
 pub struct PartAt {
     pub place: usize,
     pub half: usize,

@@ -1,4 +1,6 @@
 // The whole output of the program, as bytes.
+#![tactic(auto)]
+
 ghost use Rattle.std.specs.Prelude.{◌<◌};
 ghost use Rattle.limits.specs.Limits.{max_runs, u32_end};
 ghost use Rattle.run_log.specs.Log.{log_of};

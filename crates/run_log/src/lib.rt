@@ -1,5 +1,7 @@
 // The log of runs: how many rows it has, each row as a part of it, and the checks of a log and its marks.
 // No other crate cuts a row out of a log.
+#![tactic(auto)]
+
 ghost use Rattle.std.specs.Prelude.{◌≡◌, ltb, get_or};
 ghost use Rattle.run_log.specs.Log.{row_count, row_at, log_refusal, marks_refusal, mark_values_refusal};
 

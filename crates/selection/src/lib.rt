@@ -1,4 +1,6 @@
 // Best matches by an engine that brings its own work space.
+#![tactic(auto)]
+
 ghost use Rattle.std.specs.Prelude.{◌≡◌, ◌≤◌, length};
 ghost use Rattle.limits.specs.Limits.{max_runs, max_nodes, max_work};
 ghost use Rattle.run_log.specs.Log.{log_of, row_count, marked_rows};
@@ -12,7 +14,7 @@ use preference::PreferenceList;
 use window::WindowAnswer;
 
 // The number of shortlisted rows, or the number that the call is refused by.
-#[derive(Drop)]
+#[derive(Clone, Copy)]
 pub enum Selection {
     Best(u16),
     Refused(u8),

@@ -1,4 +1,6 @@
 // Reads a stream from standard input and prints the shift sheet of its shortlist.
+#![tactic(auto)]
+
 ghost use Rattle.std.specs.Prelude.{◌+◌, ◌≤◌, length};
 ghost use Rattle.limits.specs.Limits.{max_stream_bytes, max_sheet_bytes};
 ghost use Rattle.stream_format.specs.Kinds.{run_record};

@@ -1,4 +1,6 @@
 // The lines of a shift sheet, put into lent bytes (document 02, order 1).
+#![tactic(auto)]
+
 ghost use Rattle.std.specs.Prelude.{◌≡◌, ◌-◌, ◌≤◌, pos, length, get_or};
 ghost use Rattle.text.specs.Prints.{Prints};
 ghost use Rattle.sheet_lines.specs.Line.{padded, field_width, fields_of, field_text};

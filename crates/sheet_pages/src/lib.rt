@@ -1,4 +1,6 @@
 // The shift sheet: the marked runs of a log, on pages (document 02, order 1).
+#![tactic(auto)]
+
 ghost use Rattle.std.specs.Prelude.{◌≡◌, ◌*◌, ◌<◌, ◌≤◌, length};
 ghost use Rattle.limits.specs.Limits.{max_runs};
 ghost use Rattle.run_log.specs.Log.{row_at, marked_rows};
@@ -10,7 +12,7 @@ ghost use Rattle.sheet_pages.specs.Call.{handed_refusal, room_refusal, sheet_ref
 ghost use Rattle.sheet_pages.specs.Inside.{picked, page_end};
 
 // The length of the sheet, or the number that the call is refused by.
-#[derive(Drop)]
+#[derive(Clone, Copy)]
 pub enum SheetAnswer {
     Printed(usize),
     Refused(u8),

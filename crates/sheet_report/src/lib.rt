@@ -1,4 +1,6 @@
 // The shift sheet of a stream, and the whole output of the program `sheet`, as bytes.
+#![tactic(auto)]
+
 ghost use Rattle.std.specs.Prelude.{◌≤◌, length};
 ghost use Rattle.limits.specs.Limits.{max_runs, max_sheet_bytes};
 ghost use Rattle.laws.specs.Checks.{◌then◌};

@@ -1,4 +1,6 @@
 // Reads a stream from standard input and prints its report.
+#![tactic(auto)]
+
 ghost use Rattle.std.specs.Prelude.{◌+◌, ◌≤◌, length};
 ghost use Rattle.limits.specs.Limits.{max_stream_bytes};
 ghost use Rattle.stream_format.specs.Kinds.{run_record};

@@ -1,5 +1,7 @@
 // Reading of streams (document 01, "Runs and records" and "When a number comes back"): record by record, and then the
 // log.
+#![tactic(auto)]
+
 ghost use Rattle.std.specs.Prelude.{true, ◌≡◌, ◌+◌, ◌<◌, ◌≤◌, length, get_or};
 ghost use Rattle.std.proofs.lemmas.List.Edits.{sets};
 ghost use Rattle.limits.specs.Limits.{max_runs};

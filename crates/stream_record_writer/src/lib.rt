@@ -1,6 +1,8 @@
 // Writing of one record. Each function stores bytes at a place and gives the place after them; a store past the
 // output's end does nothing. Inside the writer, and no call open to others: `stream_writer` meets
 // what its calls require.
+#![tactic(auto)]
+
 ghost use Rattle.std.specs.Prelude.{◌≡◌, ◌++◌, ◌+◌, ◌*◌, ◌<◌, length};
 ghost use Rattle.limits.specs.Limits.{usize_end};
 ghost use Rattle.stream_format.specs.Kinds.{wish_record, named_record};

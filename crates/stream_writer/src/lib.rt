@@ -1,5 +1,7 @@
 // Writing of a preference list and a log as a stream. Each function that puts something stores its bytes at a place and
 // gives the place after them. Stores past the output's end do nothing, so that the room is one check.
+#![tactic(auto)]
+
 ghost use Rattle.std.specs.Prelude.{◌≡◌, ◌+◌, ◌*◌, ◌<◌, ◌≤◌, length};
 ghost use Rattle.limits.specs.Limits.{max_values, max_wishes, max_named, max_stream_bytes, usize_end};
 ghost use Rattle.stream_format.specs.Kinds.{run_record, wish_record, named_record};

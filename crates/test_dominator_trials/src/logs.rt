@@ -7,7 +7,7 @@ use test_support::{figures, levels_apart, lists, logs, nested, show};
 
 // What was tried so far: differences, logs refused by 8, and of the others those of sixteen level parts, their rows,
 // and those on a shortlist.
-#[derive(Drop)]
+#[derive(Clone, Copy)]
 struct Tally {
     differing: u64,
     refused: u64,

@@ -1,5 +1,7 @@
 // Shows the levels of the Harbour log (document 01, "Harbour log and marked cases"): most cubic metres, density near
 // 1,250; then the same with kind 08 for AROUND (document 02, order 2), and the sides of the runs' values.
+#![tactic(auto)]
+
 use constructor::Constructor;
 use preference::{Named, Preference, PreferenceList};
 use test_support::{show, trial};

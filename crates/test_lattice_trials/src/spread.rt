@@ -3,7 +3,7 @@ use test_support::show;
 
 // A log: whether it has rows, its level parts (0 where it is refused by 8 or 9), the number that it is refused by (11
 // with one crossing fewer than it takes, 0 where it takes none), and whether the engine agrees with the model.
-#[derive(Drop)]
+#[derive(Clone, Copy)]
 pub struct Tried {
     pub rows: usize,
     pub parts: usize,
@@ -11,7 +11,7 @@ pub struct Tried {
     pub agreed: bool,
 }
 
-#[derive(Drop)]
+#[derive(Clone, Copy)]
 pub struct Spread {
     pub logs: u64,
     pub empty: u64,

@@ -1,5 +1,7 @@
 // What documents 000, 003 and 02 say of lattices, and the Harbour log, through the lattice engine. Each line begins
 // with its source, and the file stdout holds the documents' figures.
+#![tactic(auto)]
+
 mod answers;
 mod counts;
 mod edges;

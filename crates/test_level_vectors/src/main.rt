@@ -1,5 +1,7 @@
 // Runs the level vectors of documents 000 and 003 and prints the levels that come back, each with its side, and the
 // pairs of levels of kind 08. The file stdout holds the documents' figures.
+#![tactic(auto)]
+
 mod pairs;
 mod sides;
 

@@ -1,6 +1,8 @@
 // Runs the entries of document 01's refusal table that a list in memory can have, and both orders of two faults. A line
 // prints the number of the list's check and what the level of 0 at place 0 comes back as. The file stdout holds what
 // documents 01 and 02 say.
+#![tactic(auto)]
+
 mod pairs;
 
 use constructor::Constructor;

@@ -1,6 +1,8 @@
 // Best matches that documents 000 and 003 work out, and those that document 02's order 2 changes, through both engines
 // and the question which run beat a row. Each line begins with its source, and the file stdout holds the documents'
 // figures: marks by row, counted from 0 where the documents count from 1.
+#![tactic(auto)]
+
 mod cars;
 mod john;
 mod level_tables;

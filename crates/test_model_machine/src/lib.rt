@@ -2,6 +2,7 @@
 // Level vectors lie in a table of sixteen parts each. A row's place is 0 outside, 1 in the window, 2 in the result; its
 // stamp is 0 until it was read. One queue of rows serves all passes: what a pass sets aside is read after all that the
 // pass reads.
+#![tactic(auto)]
 
 const OUTSIDE: u8 = 0;
 
@@ -136,7 +137,7 @@ fn entry_of(places: &[u8], stamps: &[u32], stamp: u32) -> usize {
     at
 }
 
-#[derive(Drop)]
+#[derive(Clone, Copy)]
 struct Verdict {
     dropped: bool,
     compares: u32,
@@ -199,7 +200,7 @@ fn entries(places: &[u8]) -> u32 {
 
 // ---- the machine: all rows
 
-#[derive(Drop)]
+#[derive(Clone, Copy)]
 struct State {
     clock: u32,
     tail: u32,

@@ -1,9 +1,11 @@
 // A reader's verdict on a stream, written apart from the reader, from document 01 and order 2 of document 02 alone: no
 // type, rule or number is shared. Signed numbers are held with their top bit turned, which keeps their order among
 // unsigned ones. Proved safe and ending, no more.
+#![tactic(auto)]
+
 ghost use Rattle.std.specs.Prelude.{◌<◌, ◌≤◌, ◌+◌, length};
 
-#[derive(Drop)]
+#[derive(Clone, Copy)]
 pub struct Verdict {
     pub refusal: u32,
     pub place: usize,
@@ -14,7 +16,7 @@ pub struct Verdict {
 
 // What was read before a place: the runs, wishes and named values, the columns taken, the kind of the last record, and
 // the top layer of the last LAYERED wish.
-#[derive(Drop)]
+#[derive(Clone, Copy)]
 pub struct Sofar {
     pub rows: u32,
     pub wishes: u32,

@@ -89,7 +89,7 @@ fn differs(s: &[u8], room: usize) -> u64
 }
 
 // How many streams were tried, and how many differed.
-#[derive(Drop)]
+#[derive(Clone, Copy)]
 struct Tally {
     tried: u64,
     bad: u64,

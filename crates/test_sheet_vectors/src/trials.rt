@@ -9,7 +9,7 @@ use test_support::show;
 // What 200 runs take, and some bytes past them.
 const ROOM: usize = 21300;
 
-#[derive(Drop)]
+#[derive(Clone, Copy)]
 struct Tally {
     logs: u64,
     runs: u64,

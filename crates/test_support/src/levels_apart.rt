@@ -144,7 +144,7 @@ fn layer(list: PreferenceList, place: usize, v: i32, others: u8) -> u8 {
 // ---- parts of level vectors: one for each wish, two for kind 08
 
 // What a wish gives to a level vector.
-#[derive(Drop)]
+#[derive(Clone, Copy)]
 struct Parts {
     first: u32,
     second: u32,

@@ -1,5 +1,7 @@
 // What the programs that try calls share: printing, preference lists and logs by hand and from a seed, levels written
 // apart, and a nested loop to hold calls against. Proved safe and ending, no more.
+#![tactic(auto)]
+
 pub mod figures;
 pub mod lent;
 pub mod levels_apart;

@@ -50,7 +50,7 @@ fn differs(log: &[i32], table: &[u32]) -> u64
         + totals::one_unless(calls::agrees(list(), log, table, 3))
 }
 
-#[derive(Drop)]
+#[derive(Clone, Copy)]
 struct Tried {
     differing: u64,
     best: u64,

@@ -32,7 +32,7 @@ fn compares(table: &[u32], rows: usize, w: u32) -> u32 {
 
 // What was tried so far: differences, refusals by 8, and of the other logs those of sixteen level parts, the
 // shortlisted rows, and the compares in all windows.
-#[derive(Drop)]
+#[derive(Clone, Copy)]
 pub struct Tally {
     pub differing: u64,
     pub refused: u64,

@@ -1,5 +1,7 @@
 // Tries the window engine on short logs that tell wrong machines apart, on P10, P11 and the Harbour log, and on calls
 // that are refused. The file stdout holds what documents 01 and 02 say of them.
+#![tactic(auto)]
+
 mod calls;
 
 use calls::{MARK, WORD};

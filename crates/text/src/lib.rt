@@ -1,5 +1,7 @@
 // Texts put into lent bytes one after the other. Every function takes every place and gives the place after its text.
 // A store past the bytes' end does nothing.
+#![tactic(auto)]
+
 ghost use Rattle.std.specs.Prelude.{◌≡◌, [], ◌∷◌, nat_abs};
 ghost use Rattle.text.specs.Text.{decimal, sign, signed, decimals, hundredths};
 ghost use Rattle.text.specs.Prints.{Prints};

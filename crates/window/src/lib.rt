@@ -1,5 +1,7 @@
 // The window engine, block nested loops with timestamps: the checks of its call, and the window machine on the level
 // table of what they accept.
+#![tactic(auto)]
+
 ghost use Rattle.std.specs.Prelude.{◌≡◌, ◌+◌, ◌*◌, ◌/◌, ◌<◌, length};
 ghost use Rattle.run_log.specs.Log.{log_of};
 ghost use Rattle.level_table.specs.Table.{table_of};
@@ -10,7 +12,7 @@ ghost use Rattle.window.specs.Engine.{sizes_refusal, machine_of, window_call, Wo
 use preference::PreferenceList;
 
 // The compares made, or the number that the call is refused by.
-#[derive(Drop)]
+#[derive(Clone, Copy)]
 pub enum WindowAnswer {
     Compared(u32),
     Refused(u8),

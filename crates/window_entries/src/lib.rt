@@ -1,5 +1,7 @@
 // The entries of the window machine in a lent work list: stored, removed in place, and released. Inside the window
 // engine, and no call open to others.
+#![tactic(auto)]
+
 ghost use Rattle.std.specs.Prelude.{◌≡◌, ◌+◌, ◌*◌, ◌<◌, ◌≤◌, Bool, get_or, set, length};
 ghost use Rattle.limits.specs.Limits.{max_window, max_work};
 ghost use Rattle.window_machine.specs.Machine.{Entry};

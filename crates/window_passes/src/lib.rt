@@ -1,5 +1,7 @@
 // The passes of the window machine over the rows of a level table, in a lent work list. Inside the window engine,
 // and no call open to others: `window` meets what its calls require.
+#![tactic(auto)]
+
 ghost use Rattle.std.specs.Prelude.{◌≡◌, ◌+◌, ◌*◌, ◌≤◌, map, length};
 ghost use Rattle.limits.specs.Limits.{max_window};
 ghost use Rattle.window_machine.specs.Machine.{marked, unread, machine};

@@ -1,5 +1,7 @@
 // One row of a level table read by the window machine, whose state is in a lent work list. Inside the window engine,
 // and no call open to others: `window_passes` meets what its calls require.
+#![tactic(auto)]
+
 ghost use Rattle.std.specs.Prelude.{◌≡◌, false, ◌*◌, ◌<◌, ◌≤◌, get_or, length};
 ghost use Rattle.limits.specs.Limits.{max_window};
 ghost use Rattle.pareto.specs.Table.{is_double, compared};
@@ -9,14 +11,14 @@ ghost use Rattle.window_step.specs.Work.{table_dominates, Fronted, Scanned, Read
 
 // How many entries, the oldest first, are apart from a row: neither dominates the other. How the next one, if there is
 // one, and the row stand.
-#[derive(Drop)]
+#[derive(Clone, Copy)]
 pub struct Front {
     pub at: usize,
     pub relation: u8,
 }
 
 // Whether a row is dropped, from which entry on `remove` has to look, and how many compares told so.
-#[derive(Drop)]
+#[derive(Clone, Copy)]
 pub struct Verdict {
     pub dropped: bool,
     pub from: usize,
@@ -120,7 +122,7 @@ fn scan(table: &[u16], work: &[u32], occupied: usize, row: u32, flags: &mut [u8]
 }
 
 // Where the machine stands, beside its lists: entries in the window, entries set aside, the clock, the compares made.
-#[derive(Drop)]
+#[derive(Clone, Copy)]
 pub struct Standing {
     pub occupied: usize,
     pub overflow: usize,

@@ -1,5 +1,7 @@
 // Lent bytes, and numbers of four bytes, least byte first. Every function takes every place: bytes past the end read as
 // 0, and a store past the end does nothing.
+#![tactic(auto)]
+
 ghost use Rattle.std.specs.Prelude.{◌≡◌, ◌<◌, length, get_or, set, replicate};
 ghost use Rattle.std.proofs.lemmas.List.Edits.{sets};
 ghost use Rattle.std.specs.Int.{w32};
