@@ -9,8 +9,7 @@ use mir.Val.{to_z, of_z, SFits}
 use mir.ValLaws.{to_z-of_z, to_z_pos}
 use borrow.Author.Tests.{ltb-true}
 use Rattle.word.proofs.Complement.{flip_neg}
-use Rattle.word.proofs.unsigned.Statement.{statement}
-use Rattle.word.proofs.unsigned.Tie as tie
+use Rattle.word.proofs.unsigned.Goals as goal
 
 -- a number below zero: what `-1 - v` gives, and its bits
 record Below (z : ℤ) : Type 0 where
@@ -29,8 +28,8 @@ below (negsuc n) f t =
 twice : {z : ℤ} (b : Below z) → to_z w32 (of_z w32 (negsuc 0 -ℤ to_z w32 (of_z w32 z))) ≡ pos b.k
 twice b = ap (λ (y : ℤ). to_z w32 (of_z w32 y)) b.flipped ∙ to_z_pos w32 b.k b.small
 
-neg : (c : tie.Then1) → Below c.before.args.v
-neg c = below c.before.args.v c.before.ranges.v c.if1.true
+neg : (c : goal.Then-v-lt0) → Below c.args.v
+neg c = below c.args.v c.ranges.v c.if-v-lt0.true
 
 -- a number from zero up: its bits
 record Above (z : ℤ) : Type 0 where
@@ -48,27 +47,24 @@ above (negsuc n) f t =
     bit true = 1
     bit false = 0
 
-nonneg : (c : tie.Else1) → Above c.before.args.v
-nonneg c = above c.before.args.v c.before.ranges.v c.if1.false
+nonneg : (c : goal.Else-v-lt0) → Above c.args.v
+nonneg c = above c.args.v c.ranges.v c.if-v-lt0.false
 
-sub-k : tie.Need-overflow-sub-k
-sub-k c = rw (neg c).flipped (record { sfits = (neg c).small })
+pub overflow_sub-k : goal.overflow_sub-k
+overflow_sub-k c = rw (neg c).flipped (record { sfits = (neg c).small })
 
-cast-result : tie.Need-overflow-cast-result
-cast-result c = rw (twice (neg c)) (tt, record { fits = omega (arith, (neg c).small) })
+pub overflow_cast-result : goal.overflow_cast-result
+overflow_cast-result c = rw (twice (neg c)) (tt, record { fits = omega (arith, (neg c).small) })
 
-sub-result : tie.Need-overflow-sub-result
-sub-result c = rw (twice (neg c)) (omega (arith, (neg c).small))
+pub overflow_sub-result : goal.overflow_sub-result
+overflow_sub-result c = rw (twice (neg c)) (omega (arith, (neg c).small))
 
-cast-result-2 : tie.Need-overflow-cast-result-2
-cast-result-2 c = rw ((nonneg c).is, to_z_pos w32 (nonneg c).k (nonneg c).small) (tt, record { fits = omega (arith, (nonneg c).small) })
+pub overflow_cast-result-else-v-lt0 : goal.overflow_cast-result-else-v-lt0
+overflow_cast-result-else-v-lt0 c = rw ((nonneg c).is, to_z_pos w32 (nonneg c).k (nonneg c).small) (tt, record { fits = omega (arith, (nonneg c).small) })
 
-returns : tie.Need-returns
-returns c =
+pub returns-then-v-lt0 : goal.returns-then-v-lt0
+returns-then-v-lt0 c =
     ap (λ (y : ℤ). 4294967295 - nat_abs y) (twice (neg c)) ∙ omega (arith, (neg c).small) ∙ sym (ap (of_z w32) (neg c).is)
 
-returns-2 : tie.Need-returns-2
-returns-2 c = rw ((nonneg c).is, to_z_pos w32 (nonneg c).k (nonneg c).small)
-
-pub unsigned-spec : {M : Type 1} → statement M
-unsigned-spec = tie.close (tie.spec sub-k cast-result sub-result cast-result-2 returns returns-2)
+pub returns-else-v-lt0 : goal.returns-else-v-lt0
+returns-else-v-lt0 c = rw ((nonneg c).is, to_z_pos w32 (nonneg c).k (nonneg c).small)
