@@ -45,6 +45,6 @@ unfolding answers expected answer outcome ◌gives◌ ◌then◌ first_at any_be
     levels_of held dominated_node reached edges_from edges crossed_at crossings bound_from bound lattice_tops lattice_row
     lattice_rows lattice_refusal sizes_refusal window_refusal machine_of machines.keep machines.marked machines.older
     machines.younger machines.release machines.dominated machines.compares machines.tick machines.spares machines.remove
-    machines.enter machines.setAside machines.renew machines.finish machines.is_empty machines.place machines.judge
+    machines.enter machines.set_aside machines.renew machines.finish machines.is_empty machines.place machines.judge
     machines.read machines.pass machines.passes machines.start machines.machine
 marked_cases = each cases refl

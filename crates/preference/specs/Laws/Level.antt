@@ -32,14 +32,14 @@ module _ (l : PreferenceList) (i : ℕ) (v : ℤ) (a : ListAccepted l) where
       eqb-true (named_at l k).preference i
       (both (eqb (named_at l k).preference i) (eq_z (named_at l k).value v) (h.there q)).0 in
       let n = a.each_named k (omega (arith, names_counted l)) in
-      form.layer-accepted (constructor_at l i) (named_at l k).layer top others (rw w at n.layer_none) y
+      form.layer_accepted (constructor_at l i) (named_at l k).layer top others (rw w at n.layer_none) y
 
   under : (y : Layering) → layering_of (constructor_at l i) ≡ y → sound (constructor_at l i) ≡ true
       → inside (constructor_at l i) v ≡ true → level_under l i v y ≤ max_at l i
   unfolding max_at layer_of
   under Numeric y s h = (max_greatest (constructor_at l i) y s).most v h
   under (Layers top others) y s h =
-      let m = form.layers-sound (constructor_at l i) top others y s in
+      let m = form.layers_sound (constructor_at l i) top others y s in
       let k = first_at (is_named l i v) (named_places l) in
       rw m.0
       (found_low top others k y m.1 (first_is (is_named l i v) (named_places l)) (ltb k (named_places l)) refl)

@@ -232,7 +232,7 @@ module _ (l : PreferenceList) (log : List ℤ) (some : 0 < l.count) (fits : LogF
                 arith,
                 length-append (ints_bytes (row_at log n)) rest,
                 ints_long (row_at log n),
-                logs.row-long log n n-in,
+                logs.row_long log n n-in,
               );
           figures = gives_no _ 7 (lt-leb 1024 r.rows (omega (arith, h.rows_are)));
         }
@@ -242,7 +242,7 @@ module _ (l : PreferenceList) (log : List ℤ) (some : 0 < l.count) (fits : LogF
     read_run =
         let r = h.answer in
         let vs = row_at log n in
-        let long = logs.row-long log n n-in in
+        let long = logs.row_long log n n-in in
         let next : ReadAnswer = record { refusal = 0; place = r.place + 33; rows = r.rows + 1; list = r.list } in
         let eight : 8 * n + 8 ≡ 8 * suc n = omega arith in
         let values : take (8 * n) log ++ vs ≡ take (8 * suc n) log = rw (← eight) (sym (take-add (8 * n) 8 log)) in

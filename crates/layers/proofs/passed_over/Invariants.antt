@@ -1,0 +1,17 @@
+use borrow.Author.Rules.{rules}
+use native.Mathlib.Omega.{arith}
+use Prim.Native.Nat.{◌≤◌, ◌-◌}
+use mathlib.Core.Path.{◌≡◌, refl}
+use mir.Val.{to_z, of_z}
+use mir.Syntax.{w32}
+use Rattle.arith.specs.Laws.Local.{num}
+use Rattle.laws.specs.First.{first_at}
+use Rattle.laws.specs.Laws.First.{search_past}
+use Rattle.preference.specs.Names.{is_value}
+use Rattle.layers.proofs.passed_over.Given as goal
+
+abbrev pub invariant-loop-k : goal.invariant-loop-k
+invariant-loop-k l = (l.k ≤ l.n) × (first_at (is_value l.values (to_z w32 l.v)) l.k ≡ l.k)
+
+abbrev pub decreases-loop-k : goal.decreases-loop-k
+decreases-loop-k l = l.n - l.k

@@ -1,0 +1,15 @@
+use mathlib.Core.Path.{◌≡◌, refl, sym, ◌∙◌}
+use Rattle.laws.specs.First.{first_at, is_refusal}
+use Rattle.laws.specs.Laws.First.{refusal_on, refusal_hit, refusal_none}
+use Rattle.preference.specs.Valid.{named_refusal}
+use borrow.Author.Rules.{rules}
+use native.Mathlib.Omega.{arith}
+use Prim.Native.Nat.{◌≤◌, ◌-◌}
+use mathlib.Core.Path.{◌≡◌}
+use Rattle.preference.proofs.all_named_refusal.Given as goal
+
+abbrev pub invariant-loop-i : goal.invariant-loop-i
+invariant-loop-i l = (l.i ≤ l.n) × (first_at (is_refusal (named_refusal l.list)) l.i ≡ l.i)
+
+abbrev pub decreases-loop-i : goal.decreases-loop-i
+decreases-loop-i l = l.n - l.i

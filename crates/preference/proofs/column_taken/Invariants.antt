@@ -1,0 +1,16 @@
+use mathlib.Core.Path.{◌≡◌, refl, sym}
+use borrow.Author.Tests.{eq-eqb, ne_eqb}
+use Rattle.laws.specs.First.{first_at}
+use Rattle.laws.specs.Laws.First.{any_hit, any_none, search_on}
+use Rattle.preference.specs.Valid.{has_column}
+use borrow.Author.Rules.{rules}
+use native.Mathlib.Omega.{arith}
+use Prim.Native.Nat.{◌≤◌, ◌-◌}
+use mathlib.Core.Path.{◌≡◌}
+use Rattle.preference.proofs.column_taken.Given as goal
+
+abbrev pub invariant-loop-j : goal.invariant-loop-j
+invariant-loop-j l = (l.j ≤ l.n) × (first_at (has_column l.list l.column) l.j ≡ l.j)
+
+abbrev pub decreases-loop-j : goal.decreases-loop-j
+decreases-loop-j l = l.n - l.j
