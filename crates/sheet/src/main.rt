@@ -6,7 +6,10 @@ ghost use Rattle.limits.specs.Limits.{max_stream_bytes, max_sheet_bytes};
 ghost use Rattle.stream_format.specs.Kinds.{run_record};
 ghost use Rattle.sheet_report.specs.Sheet.{SheetFront};
 
-use libc::{STDIN_FILENO, STDOUT_FILENO};
+// The descriptors of standard input and output.
+const STDIN_FILENO: i32 = 0;
+
+const STDOUT_FILENO: i32 = 1;
 
 // The bytes kept for a stream, as many as `shortlist` keeps.
 const STREAM_BYTES: usize = 65536;

@@ -6,7 +6,10 @@ ghost use Rattle.limits.specs.Limits.{max_stream_bytes};
 ghost use Rattle.stream_format.specs.Kinds.{run_record};
 ghost use Rattle.report.specs.Report.{report_end, ReportsFront};
 
-use libc::{STDIN_FILENO, STDOUT_FILENO};
+// The descriptors of standard input and output.
+const STDIN_FILENO: i32 = 0;
+
+const STDOUT_FILENO: i32 = 1;
 
 // The bytes kept for a stream and for its report.
 const STREAM_BYTES: usize = 65536;

@@ -1,5 +1,6 @@
 // Printing for the programs that show or try something: text, and numbers with a space before each.
-use libc::STDOUT_FILENO;
+// The descriptor of standard output.
+const STDOUT_FILENO: i32 = 1;
 
 pub fn text(t: &[u8]) {
     io::write_all(STDOUT_FILENO, t);
