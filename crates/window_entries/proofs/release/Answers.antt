@@ -12,6 +12,7 @@ use borrow.Author.Rules.{rules}
 use native.Mathlib.Omega.{arith}
 use Prim.Native.Nat.{◌<◌, ◌-◌}
 use Rattle.window_entries.proofs.release.Goals as goal
+use Rattle.window_entries.proofs.release.Goals.{then-timestamp-s, else-timestamp-s}
 
 pub shape_of-work-then-s-word : goal.shape_of-work-then-s-word
 shape_of-work-then-s-word c = refl
@@ -37,18 +38,17 @@ loop-i-preserved c =
     let row = c.word-row.ensures in
     let timestamp = c.word-timestamp.ensures in
     let e = read_is (younger a.s) a.work.now a.occupied h l.invariant.0 r t row timestamp in
-    ⊎_elim
-    (λ w. let o : ltb t a.s ≡ true = lt-ltb t a.s w.0.taken in rw (w.5, w.6 ∙ w.2.ensures, w.7) (
+    elim c.if-timestamp-s.branch [ then-timestamp-s w ↦
+    let o : ltb t a.s ≡ true = lt-ltb t a.s w.if-timestamp-s.true in rw (w.work-is, w.marks-is ∙ w.mark.ensures, w.m-is) (
       skip_read (younger a.s) a.work.now a.occupied h l.invariant.0 r t row timestamp (ap not o),
       length-set l.marks r 1 ∙ l.invariant.1,
       sym (mark_read (older a.s) a.work.now a.occupied l.i l.marks h (record { row = r; timestamp = t }) e o) ∙ l.invariant.2,
-    ))
-    (λ w. let o : ltb t a.s ≡ false = le-ltb t a.s w.0.left in rw (w.5 ∙ w.2.ensures, w.6, w.7) (
+    ) | else-timestamp-s w ↦
+    let o : ltb t a.s ≡ false = le-ltb t a.s w.if-timestamp-s.false in rw (w.work-is ∙ w.put_entry.ensures, w.marks-is, w.m-is) (
       keep_read (younger a.s) a.work.now a.occupied h l.invariant.0 r t row timestamp (ap not o) (omega arith),
       l.invariant.1,
       sym (leave_read (older a.s) a.work.now a.occupied l.i l.marks h (record { row = r; timestamp = t }) e o) ∙ l.invariant.2,
-    ))
-    c.if-timestamp-s.branch
+    ) ]
 
 pub shape_of-work : goal.shape_of-work
 shape_of-work c = c.loop-i.invariant.0.long

@@ -11,6 +11,7 @@ use Rattle.window_entries.specs.Entries.{entry_at, Flags}
 use Rattle.window_entries.specs.Laws.Entries.{length_put}
 use Rattle.window_entries.proofs.Packed.{Packed, pack_from, read_is, skip_read, keep_read, pack_filtered}
 use Rattle.window_entries.proofs.remove.Goals as goal
+use Rattle.window_entries.proofs.remove.Goals.{then-flags-i-ne-SECOND_DOMINATES, else-flags-i-ne-SECOND_DOMINATES}
 
 pub loop-i-init : goal.loop-i-init
 loop-i-init c =
@@ -26,8 +27,8 @@ loop-i-preserved c =
     let s = c.word-timestamp.result in
     let row = c.word-row.ensures in
     let timestamp = c.word-timestamp.ensures in
-    ⊎_elim
-    (λ w. rw (w.5 ∙ w.2.ensures, w.6) (
+    elim c.if-flags-i-ne-SECOND_DOMINATES.branch [ then-flags-i-ne-SECOND_DOMINATES w ↦
+    rw (w.work-is ∙ w.put_entry.ensures, w.m-is) (
       omega arith,
       omega arith,
       omega arith,
@@ -36,9 +37,9 @@ loop-i-preserved c =
           let z = l.invariant.4 p f in
           keep_read p a.work.now a.occupied h z r s row timestamp
           (ap p (read_is p a.work.now a.occupied h z r s row timestamp)
-          ∙ not-false (p (entry_at a.work.now l.i)) (sym (f.told l.i l.invariant.0 h) ∙ ne_eqb _ 2 w.0.taken)) (omega arith),
-    ))
-    (λ w. rw (w.1, w.2) (
+          ∙ not-false (p (entry_at a.work.now l.i)) (sym (f.told l.i l.invariant.0 h) ∙ ne_eqb _ 2 w.if-flags-i-ne-SECOND_DOMINATES.true)) (omega arith),
+    ) | else-flags-i-ne-SECOND_DOMINATES w ↦
+    rw (w.work-is, w.m-is) (
       omega arith,
       omega arith,
       omega arith,
@@ -47,9 +48,8 @@ loop-i-preserved c =
           let z = l.invariant.4 p f in
           skip_read p a.work.now a.occupied h z r s row timestamp
           (ap p (read_is p a.work.now a.occupied h z r s row timestamp)
-          ∙ not-true (p (entry_at a.work.now l.i)) (sym (f.told l.i l.invariant.0 h) ∙ eq-eqb _ 2 w.0.left)),
-    ))
-    c.if-flags-i-ne-SECOND_DOMINATES.branch
+          ∙ not-true (p (entry_at a.work.now l.i)) (sym (f.told l.i l.invariant.0 h) ∙ eq-eqb _ 2 w.if-flags-i-ne-SECOND_DOMINATES.false)),
+    ) ]
 
 pub shape_of-work : goal.shape_of-work
 shape_of-work c = c.loop-i.invariant.3
