@@ -65,15 +65,13 @@ pub returns-then-f-w : goal.returns-then-f-w
 returns-then-f-w c = rw (none _ _ _ _ c.first_reached-f.ensures c.if-f-w.true) (none_crossed _ _ _ c.requires.made_le_budget)
 
 pub overflow_add-from : goal.overflow_add-from
-overflow_add-from c =
-    let under = below _ _ _ _ c.first_reached-f.ensures c.requires.block_at.ends c.if-f-w.false in omega (arith, under, c.requires.block_at.ends, c.requires.block_at.few)
+overflow_add-from c = omega (arith, below _ _ _ _ c.first_reached-f.ensures c.requires.block_at.ends c.if-f-w.false)
 
 pub overflow_sub-ahead : goal.overflow_sub-ahead
 overflow_sub-ahead c = low _ _ _ _ c.first_reached-f.ensures c.requires.block_at.ends
 
 pub overflow_add-from-2 : goal.overflow_add-from-2
-overflow_add-from-2 c =
-    let under = below _ _ _ _ c.first_reached-f.ensures c.requires.block_at.ends c.if-f-w.false in omega (arith, under, c.requires.block_at.ends, c.requires.block_at.few)
+overflow_add-from-2 c = omega (arith, below _ _ _ _ c.first_reached-f.ensures c.requires.block_at.ends c.if-f-w.false)
 
 pub overflow_sub-ahead-2 : goal.overflow_sub-ahead-2
 overflow_sub-ahead-2 c = omega (arith, below _ _ _ _ c.first_reached-f.ensures c.requires.block_at.ends c.if-f-w.false)
@@ -96,8 +94,7 @@ returns-then-nodes-end c =
     (not-false c.cross_stretch-crossed.result.ok c.if-not-crossed.false) c.if-nodes-end.true
 
 pub overflow_add-from-3 : goal.overflow_add-from-3
-overflow_add-from-3 c =
-    let under = below _ _ _ _ c.first_reached-f.ensures c.requires.block_at.ends c.if-f-w.false in omega (arith, under, c.requires.block_at.ends, c.requires.block_at.few)
+overflow_add-from-3 c = omega (arith, below _ _ _ _ c.first_reached-f.ensures c.requires.block_at.ends c.if-f-w.false)
 
 pub cross_stretch-requires : goal.cross_stretch-requires
 cross_stretch-requires c =
