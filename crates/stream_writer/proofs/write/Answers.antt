@@ -11,17 +11,22 @@ returns-then-list_refusal-ne0 c =
 pub returns-then-log_refusal-ne0 : goal.returns-then-log_refusal-ne0
 returns-then-log_refusal-ne0 c =
     let a = c.args in
-    log_refuses a.list a.log.now a.out.now _ (sym c.refusal-list_refusal.ensures ∙ c.if-list_refusal-ne0.false) c.refusal-log_refusal.ensures c.if-log_refusal-ne0.true
+    let list = sym c.refusal-list_refusal.ensures ∙ c.if-list_refusal-ne0.false in
+    log_refuses a.list a.log.now a.out.now _ list c.refusal-log_refusal.ensures c.if-log_refusal-ne0.true
 
 pub returns-then-out-length : goal.returns-then-out-length
 returns-then-out-length c =
     let a = c.args in
-    room_refuses a.list a.log.now a.out.now (sym c.refusal-list_refusal.ensures ∙ c.if-list_refusal-ne0.false) (sym c.refusal-log_refusal.ensures ∙ c.if-log_refusal-ne0.false)
+    let list = sym c.refusal-list_refusal.ensures ∙ c.if-list_refusal-ne0.false in
+    let log = sym c.refusal-log_refusal.ensures ∙ c.if-log_refusal-ne0.false in
+    room_refuses a.list a.log.now a.out.now list log
     (omega (arith, c.stream_length-length.ensures))
 
 pub returns : goal.returns
 returns c =
     let a = c.args in
+    let list = sym c.refusal-list_refusal.ensures ∙ c.if-list_refusal-ne0.false in
+    let log = sym c.refusal-log_refusal.ensures ∙ c.if-log_refusal-ne0.false in
     rw (c.stream_length-length.ensures, c.put_stream.ensures.last_is)
-    (writes a.list a.log.now a.out.now (sym c.refusal-list_refusal.ensures ∙ c.if-list_refusal-ne0.false) (sym c.refusal-log_refusal.ensures ∙ c.if-log_refusal-ne0.false)
+    (writes a.list a.log.now a.out.now list log
     (omega (arith, c.stream_length-length.ensures)))

@@ -1,6 +1,4 @@
 use mathlib.Core.Path.{sym, ap, ◌∙◌}
-use borrow.Author.Tests.{le-leb, lt-leb}
-use Rattle.laws.specs.Laws.Checks.{gives_yes, gives_no}
 use Rattle.preference.specs.Valid.{preference_refusal}
 use Rattle.preference.specs.declared.Preference.{Preference}
 use Rattle.stream_format.specs.Read.{naming_refusal, figures_refusal}
@@ -42,15 +40,3 @@ returns-in-NamedRecord c =
     c.naming_refusal.ensures
     ∙ ap (λ (layer : ℕ). naming_refusal a.r.list layer) c.get_u8.ensures
     ∙ sym (ap (λ (x : Class). figures_refusal x a.r a.t.now) c.in-NamedRecord.is)
-
-pub returns-then-r-ge-MAX_RUNS : goal.returns-then-r-ge-MAX_RUNS
-unfolding figures_refusal
-returns-then-r-ge-MAX_RUNS c =
-    let a = c.args in
-    sym (ap (λ (x : Class). figures_refusal x a.r a.t.now) c.in-RunRecord.is ∙ gives_yes _ 7 (le-leb _ _ c.if-r-ge-MAX_RUNS.true))
-
-pub returns-else-r-ge-MAX_RUNS : goal.returns-else-r-ge-MAX_RUNS
-unfolding figures_refusal
-returns-else-r-ge-MAX_RUNS c =
-    let a = c.args in
-    sym (ap (λ (x : Class). figures_refusal x a.r a.t.now) c.in-RunRecord.is ∙ gives_no _ 7 (lt-leb _ _ c.if-r-ge-MAX_RUNS.false))

@@ -32,7 +32,9 @@ out_of_place-requires c = c.requires
 
 pub returns-then-out_of_place : goal.returns-then-out_of_place
 unfolding record_refusal ◌gives◌ ◌then◌
-returns-then-out_of_place c = rw (unknown c.is_unknown.ensures c.class_of-class.ensures ∙ c.if-is_unknown.false, placed c.args.r c.out_of_place.ensures c.class_of-class.ensures ∙ c.if-out_of_place.true)
+returns-then-out_of_place c =
+    let known = unknown c.is_unknown.ensures c.class_of-class.ensures ∙ c.if-is_unknown.false in
+    rw (known, placed c.args.r c.out_of_place.ensures c.class_of-class.ensures ∙ c.if-out_of_place.true)
 
 pub body_of-requires : goal.body_of-requires
 body_of-requires c = tt

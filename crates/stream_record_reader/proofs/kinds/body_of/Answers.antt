@@ -41,15 +41,19 @@ returns-in-7 c = (sym (ap of_kind c.in-7.is) ∙ same c.get_u8-k.result c.args.t
 
 pub returns-in-1 : goal.returns-in-1
 returns-in-1 c =
-    (sym (thirteen c.get_u8-k.result c.in-1.if-k-lt1-own.false c.in-1.if-k-lt3-own.true) ∙ same c.get_u8-k.result c.args.t.now c.get_u8-k.ensures, omega arith)
+    let e = thirteen c.get_u8-k.result c.in-1.if-k-lt1-own.false c.in-1.if-k-lt3-own.true in
+    (sym e ∙ same c.get_u8-k.result c.args.t.now c.get_u8-k.ensures, omega arith)
 
 pub returns-in_default : goal.returns-in_default
-returns-in_default c = (sym (ap (λ (x : Kind). x.body) (none_at_zero c.get_u8-k.result c.in_default.if-k-lt1-own.true)) ∙ same c.get_u8-k.result c.args.t.now c.get_u8-k.ensures, omega arith)
+returns-in_default c =
+    let none = none_at_zero c.get_u8-k.result c.in_default.if-k-lt1-own.true in
+    (sym (ap (λ (x : Kind). x.body) none) ∙ same c.get_u8-k.result c.args.t.now c.get_u8-k.ensures, omega arith)
 
 pub returns-in_default-2 : goal.returns-in_default-2
 returns-in_default-2 c =
     let k = c.get_u8-k.result in
-    let between : (k ≡ 4 → ⊥) × (k ≡ 8 → ⊥) = (λ e. c.in_default.in_default-own.rest.0.0.0.1 (inl e), λ e. c.in_default.in_default-own.rest.0.0.0.1 (inr e)) in
-    let six : 6 ≤ k = omega (arith, c.in_default.in_default-own.rest.0.0.0.0.1, between.0, c.in_default.in_default-own.rest.0.0.1, c.in_default.if-k-lt3-own.false) in
-    let past = none_past k (omega (arith, six, c.in_default.in_default-own.rest.0.1, c.in_default.in_default-own.rest.1, between.1)) in
+    let others = c.in_default.in_default-own.rest in
+    let between : (k ≡ 4 → ⊥) × (k ≡ 8 → ⊥) = (λ e. others.0.0.0.1 (inl e), λ e. others.0.0.0.1 (inr e)) in
+    let six : 6 ≤ k = omega (arith, others.0.0.0.0.1, between.0, others.0.0.1, c.in_default.if-k-lt3-own.false) in
+    let past = none_past k (omega (arith, six, others.0.1, others.1, between.1)) in
     (sym (ap (λ (x : Kind). x.body) past) ∙ same c.get_u8-k.result c.args.t.now c.get_u8-k.ensures, omega arith)

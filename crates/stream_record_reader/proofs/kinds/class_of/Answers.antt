@@ -27,11 +27,15 @@ unfolding kind_of kinds
 returns-in-7 c = sym (ap of_kind c.in-7.is) ∙ same c.get_u8-k.result c.args.t.now c.get_u8-k.ensures
 
 pub returns-in_default : goal.returns-in_default
-returns-in_default c = sym (ap (λ (x : Kind). x.class) (none_at_zero c.get_u8-k.result c.in_default.if-k-lt1-own.true)) ∙ same c.get_u8-k.result c.args.t.now c.get_u8-k.ensures
+returns-in_default c =
+    sym (ap (λ (x : Kind). x.class) (none_at_zero c.get_u8-k.result c.in_default.if-k-lt1-own.true))
+    ∙ same c.get_u8-k.result c.args.t.now c.get_u8-k.ensures
 
 pub returns-in_default-2 : goal.returns-in_default-2
 returns-in_default-2 c =
-    sym (ap (λ (x : Kind). x.class) (none_past c.get_u8-k.result (omega (arith, c.in_default.in_default-own.rest.0.0.1, c.in_default.in_default-own.rest.0.1, c.in_default.in_default-own.rest.1, c.in_default.if-k-lt6-own.false))))
+    let others = c.in_default.in_default-own.rest in
+    let past = none_past c.get_u8-k.result (omega (arith, others.0.0.1, others.0.1, others.1, c.in_default.if-k-lt6-own.false)) in
+    sym (ap (λ (x : Kind). x.class) past)
     ∙ same c.get_u8-k.result c.args.t.now c.get_u8-k.ensures
 
 pub returns-in-1 : goal.returns-in-1
@@ -39,4 +43,6 @@ unfolding kind_of kinds
 returns-in-1 c = sym (ap of_kind c.in-1.is) ∙ same c.get_u8-k.result c.args.t.now c.get_u8-k.ensures
 
 pub returns-in-1-2 : goal.returns-in-1-2
-returns-in-1-2 c = sym (preferences c.get_u8-k.result c.in-1.if-k-lt1-own.false c.in-1.if-k-lt6-own.true) ∙ same c.get_u8-k.result c.args.t.now c.get_u8-k.ensures
+returns-in-1-2 c =
+    sym (preferences c.get_u8-k.result c.in-1.if-k-lt1-own.false c.in-1.if-k-lt6-own.true)
+    ∙ same c.get_u8-k.result c.args.t.now c.get_u8-k.ensures

@@ -14,7 +14,8 @@ use Rattle.stream_record_reader.proofs.values.put_run.Goals as goal
 
 -- one value more
 next : (log : List ℤ) (to i : ℕ) (t : List ℕ) → i < 8
-    → sets (set log (to + i) (int_at t (1 + 4 * i))) (to + (i + 1)) (ints_at (8 - (i + 1)) t (1 + 4 * (i + 1))) ≡ sets log (to + i) (ints_at (8 - i) t (1 + 4 * i))
+    → sets (set log (to + i) (int_at t (1 + 4 * i))) (to + (i + 1)) (ints_at (8 - (i + 1)) t (1 + 4 * (i + 1)))
+    ≡ sets log (to + i) (ints_at (8 - i) t (1 + 4 * i))
 unfolding ints_at
 next log to i t h =
     let e : 8 - i ≡ suc (8 - (i + 1)) = omega arith in
