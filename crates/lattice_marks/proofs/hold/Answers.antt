@@ -1,10 +1,10 @@
 use mathlib.Core.Path.{◌≡◌, refl, ◌∙◌}
 use mathlib.Core.List.{List}
-use Prim.Native.Nat.{ℕ, ◌+◌, ◌-◌, ◌<◌, ◌≤◌}
+use Prim.Native.Nat.{ℕ, ◌+◌, ◌<◌, ◌≤◌}
 use native.Mathlib.Numerals.{add-one}
 use native.Mathlib.Omega.{arith}
 use borrow.Author.Rules.{rules}
-use lib.ListN.{length, get_or, drop, set, length-set, drop_of_length-le}
+use lib.ListN.{length, get_or, set, length-set, drop_of_length-le}
 use lib.Seq.{drop-cons}
 use Rattle.lattice_nodes.specs.Steps.{updated, held_byte}
 use Rattle.lattice_marks.proofs.hold.Invariants.{Left}
@@ -26,9 +26,6 @@ module _ (ids nodes₀ nodes : List ℕ) (r : ℕ) (s : Left ids nodes₀ nodes 
 
 pub loop-r-init : goal.loop-r-init
 loop-r-init c = record { low = search rules; size = refl; bytes = refl }
-
-pub overflow_cast-x : goal.overflow_cast-x
-overflow_cast-x c = omega (arith, c.shared_slice_known-in-loop-r-1.given c.loop-r.r)
 
 pub loop-r-preserved : goal.loop-r-preserved
 loop-r-preserved c =

@@ -2,7 +2,6 @@ use borrow.Author.Tests.{eq-eqb, ne_eqb}
 use lib.ListN.{get_or, get_or-eq_default}
 use mathlib.Core.Path.{◌≡◌}
 use Rattle.lattice_nodes.specs.Steps.{byte_mark}
-use borrow.Author.Rules.{rules}
 use Rattle.lattice_marks.proofs.mark_of.Goals as goal
 
 pub returns-then-nodes-x-eq1 : goal.returns-then-nodes-x-eq1

@@ -1,19 +1,13 @@
 use mathlib.Core.Path.{sym, ◌∙◌}
-use mathlib.Core.List.{List}
-use Prim.Native.Nat.{ℕ, ◌-◌}
 use native.Mathlib.Omega.{arith}
-use borrow.Author.Rules.{rules}
-use lib.ListN.{length, get_or}
-use Rattle.lattice_nodes.specs.Steps.{byte_mark, marked_by}
-use Rattle.laws.specs.Laws.Written.{Written, none_written, one_written, all_written}
+use lib.ListN.{length}
+use Rattle.lattice_nodes.specs.Steps.{marked_by}
+use Rattle.laws.specs.Laws.Written.{none_written, one_written, all_written}
 use Rattle.lattice_marks.proofs.write_marks.Invariants.{mark}
 use Rattle.lattice_marks.proofs.write_marks.Goals as goal
 
 pub loop-r-init : goal.loop-r-init
 loop-r-init c = none_written (mark c.args.ids.now c.args.nodes.now) _ _ c.requires
-
-pub overflow_cast-x : goal.overflow_cast-x
-overflow_cast-x c = omega (arith, c.shared_slice_known-in-loop-r-1.given c.loop-r.r)
 
 pub bounds-marks-r : goal.bounds-marks-r
 bounds-marks-r c = omega (arith, c.loop-r.invariant.long)

@@ -1,11 +1,8 @@
-use mathlib.Core.Path.{sym, ◌∙◌}
 use mathlib.Core.List.{List}
 use Prim.Native.Nat.{ℕ, ◌-◌}
-use native.Mathlib.Omega.{arith}
-use borrow.Author.Rules.{rules}
 use lib.ListN.{length, get_or}
-use Rattle.lattice_nodes.specs.Steps.{byte_mark, marked_by}
-use Rattle.laws.specs.Laws.Written.{Written, none_written, one_written, all_written}
+use Rattle.lattice_nodes.specs.Steps.{byte_mark}
+use Rattle.laws.specs.Laws.Written.{Written}
 use Rattle.lattice_marks.proofs.write_marks.Given as goal
 
 -- the mark of row r

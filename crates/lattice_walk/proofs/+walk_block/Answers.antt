@@ -56,10 +56,13 @@ cross_stretch-requires-clause-d_in_bounds t c = omega (arith, found_low _ _ c.fi
 
 pub returns-then-weight-eq1 : goal.returns-then-weight-eq1
 returns-then-weight-eq1 t c =
-    row _ _ _ _ (parts_of _ _ _ c.requires.small c.first_reached-f.ensures c.if-f-nodes.false c.if-f-eq0.false) c.if-weight-eq1.true _ c.first_reached-f.ensures _ _ _ c.cross_stretch.ensures
+    row _ _ _ _ (parts_of _ _ _ c.requires.small c.first_reached-f.ensures c.if-f-nodes.false c.if-f-eq0.false)
+    c.if-weight-eq1.true _ c.first_reached-f.ensures _ _ _ c.cross_stretch.ensures
 
 pub bounds-weights-1 : goal.bounds-weights-1
-bounds-weights-1 t c = not_last _ c.args.nodes.now (parts_of _ _ _ c.requires.small c.first_reached-f.ensures c.if-f-nodes.false c.if-f-eq0.false) c.if-weight-eq1.false
+bounds-weights-1 t c =
+    not_last _ c.args.nodes.now (parts_of _ _ _ c.requires.small c.first_reached-f.ensures c.if-f-nodes.false c.if-f-eq0.false)
+    c.if-weight-eq1.false
 
 pub walk_rows-requires-clause-rows : goal.walk_rows-requires-clause-rows
 walk_rows-requires-clause-rows t c =
@@ -78,7 +81,9 @@ overflow_mul-a t c =
     omega (arith, found_low _ _ c.first_reached-f.ensures c.if-f-nodes.false, div-mul-le_self c.first_reached-f.result (get_or c.args.weights.now 0 0))
 
 pub loop-a-init : goal.loop-a-init
-loop-a-init t c = begin _ _ _ _ (parts_of _ _ _ c.requires.small c.first_reached-f.ensures c.if-f-nodes.false c.if-f-eq0.false) _ c.first_reached-f.ensures c.requires.made_le_budget
+loop-a-init t c =
+    begin _ _ _ _ (parts_of _ _ _ c.requires.small c.first_reached-f.ensures c.if-f-nodes.false c.if-f-eq0.false)
+    _ c.first_reached-f.ensures c.requires.made_le_budget
 
 pub slice_bounds-walk_block-count : goal.slice_bounds-walk_block-count
 slice_bounds-walk_block-count t c = part_some _ _ (parts_of _ _ _ c.requires.small c.first_reached-f.ensures c.if-f-nodes.false c.if-f-eq0.false)
@@ -140,4 +145,6 @@ loop-a-preserved t c =
     (not-false c.cross_onward-staged.result.ok c.if-not-staged.false)
 
 pub returns : goal.returns
-returns t c = finish _ _ _ _ (parts_of _ _ _ c.requires.small c.first_reached-f.ensures c.if-f-nodes.false c.if-f-eq0.false) _ _ _ c.loop-a.invariant c.loop-a-test.false
+returns t c =
+    finish _ _ _ _ (parts_of _ _ _ c.requires.small c.first_reached-f.ensures c.if-f-nodes.false c.if-f-eq0.false)
+    _ _ _ c.loop-a.invariant c.loop-a-test.false

@@ -41,7 +41,9 @@ returns-then-not-crossed c =
     (not-true c.cross_row-crossed.result.ok c.if-not-crossed.true)
 
 pub overflow_add-a : goal.overflow_add-a
-overflow_add-a c = omega (arith, ends _ c.args.made c.args.budget _ (parts_of _ _ _ c.requires.small c.requires.rows) _ _ _ c.loop-a.invariant c.loop-a-test.true)
+overflow_add-a c =
+    let p = parts_of _ _ _ c.requires.small c.requires.rows in
+    omega (arith, ends _ c.args.made c.args.budget _ p _ _ _ c.loop-a.invariant c.loop-a-test.true)
 
 pub loop-a-smaller : goal.loop-a-smaller
 loop-a-smaller c =
