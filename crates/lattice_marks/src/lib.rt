@@ -29,6 +29,7 @@ fn hold(ids: &[u16], nodes: &mut [u8])
 }
 
 // The mark of a row by the byte of its node; 0 past the nodes.
+#[tactic(auto, unfolding(lattice_nodes::specs::Steps::byte_mark))]
 fn mark_of(nodes: &[u8], x: usize) -> u8
     ensures { result ≡ byte_mark (get_or nodes.now x 0) }
 {

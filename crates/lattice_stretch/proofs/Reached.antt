@@ -23,6 +23,14 @@ module _ (nodes : List ℕ) (f : ℕ) where
   unfolding first_reached
   none h = rw (drop_of_length-le nodes {i = f} h) (add-zero f)
 
+-- the same of the place alone, as tactics use it
+pub first_here : (nodes : List ℕ) (f : ℕ) → f < length nodes → (get_or nodes f 0 ≡ 0 → ⊥) → first_reached (drop f nodes) ≡ 0
+first_here nodes f h e = omega (arith, found nodes f h e)
+
+pub first_later : (nodes : List ℕ) (f : ℕ) → f < length nodes → get_or nodes f 0 ≡ 0
+    → first_reached (drop f nodes) ≡ 1 + first_reached (drop (f + 1) nodes)
+first_later nodes f h e = omega (arith, passed nodes f h e)
+
 -- d nodes that are not reached
 pub all_passed : (nodes : List ℕ) (f d : ℕ) → f + d ≤ length nodes → ((i : ℕ) → i < d → get_or nodes (f + i) 0 ≡ 0)
     → f + first_reached (drop f nodes) ≡ (f + d) + first_reached (drop (f + d) nodes)

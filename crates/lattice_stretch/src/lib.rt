@@ -89,6 +89,7 @@ fn unreached_front(nodes: &[u8]) -> usize
 }
 
 // The place of the first reached node; their number where there is none.
+#[tactic(auto, using(crate::proofs::Reached::first_here, crate::proofs::Reached::first_later))]
 pub fn first_reached(nodes: &[u8]) -> usize
     ensures { result ≡ first_reached nodes.now }
 {

@@ -9,12 +9,12 @@ use native.Mathlib.Omega.{arith}
 use lib.Arith.{le-zero}
 use lib.ListN.{length, get_or, take, drop, length-append, length-drop}
 use lib.Seq.{length-take-le, take_all}
-use Rattle.lattice_nodes.specs.Steps.{stretch, first_reached, shifted, onward_edges, row_edges, updated, entered_byte, trail}
+use Rattle.lattice_nodes.specs.Steps.{weights_of, stretch, first_reached, shifted, onward_edges, row_edges, updated, entered_byte, trail}
 use Rattle.lattice_nodes.specs.Laws.Some.{All}
 use Rattle.lattice_nodes.specs.Laws.Ids.{nodes_some}
 use Rattle.lattice_nodes.specs.Laws.Alike.{Alike}
 use Rattle.lattice_nodes.specs.Laws.FirstReached.{first_low, first_zero}
-use Rattle.lattice_nodes.specs.Laws.Blocks.{First, weight_is, later_are, block_ends, block_walked, trail_none, trail_inside}
+use Rattle.lattice_nodes.specs.Laws.Blocks.{First, first_part, weight_is, later_are, block_ends, block_walked, trail_none, trail_inside}
 use Rattle.lattice_nodes.specs.Laws.Rows.{row_walked, row_passed}
 use Rattle.lattice_stretch.specs.Progress.{Crosses}
 use Rattle.lattice_crossing.specs.Block.{BlockAt}
@@ -30,6 +30,17 @@ trail_grows ws b x (suc n) h =
 
 pub rest_is : (ws : List ℕ) → take (length ws - 1) (drop 1 ws) ≡ drop 1 ws
 rest_is ws = take_all (length ws - 1) (drop 1 ws) (omega (arith, length-drop 1 ws))
+
+-- a lattice of which a node after the first is reached has a part
+pub parts : (ws nodes : List ℕ) (f : ℕ) → Small ws (length nodes) → zero < f → f < length nodes → First ws (length nodes)
+parts ws nodes f g later reached = first_part ws (length nodes) g.lattice (omega arith)
+
+pub part_some : (ws : List ℕ) (n : ℕ) → First ws n → zero < length ws
+unfolding weights_of
+part_some ws n p = rw p.weights_are (omega arith)
+
+pub weight_some : (ws nodes : List ℕ) → First ws (length nodes) → zero < get_or ws 0 0
+weight_some ws nodes p = rw (weight_is ws nodes p) (nodes_some p.rest)
 
 -- the blocks before a are walked
 pub record Far (ws : List ℕ) (w made budget : ℕ) (nodes₀ nodes : List ℕ) (a n : ℕ) : Type 0 where
@@ -48,9 +59,6 @@ module _ (ws : List ℕ) (made budget : ℕ) (nodes₀ : List ℕ) where
   module _ (p : First ws (length nodes₀)) where
     abbrev w : ℕ
     w = get_or ws 0 0
-
-    pub some : zero < w
-    some = rw (weight_is ws nodes₀ p) (nodes_some p.rest)
 
     -- the parts after the first have one level each
     pub row : w ≡ 1 → (f : ℕ) → f ≡ first_reached nodes₀ → (after : List ℕ) (ok : Bool) (n : ℕ)

@@ -1,11 +1,10 @@
 use mathlib.Core.Path.{◌≡◌, refl, sym, ap, ◌∙◌}
 use mathlib.Core.Bool.{Bool, true, false}
 use mathlib.Core.List.{List, [], ◌∷◌, ◌++◌, append_assoc, append-nil}
-use Prim.Native.Nat.{ℕ, suc, ◌+◌, ◌-◌, ◌*◌, ◌/◌, ◌<◌, ◌≤◌}
+use Prim.Native.Nat.{ℕ, suc, ◌+◌, ◌*◌, ◌/◌, ◌<◌, ◌≤◌}
 use native.Mathlib.Nat.{one-mul, mul_assoc, mul-div_left}
 use native.Mathlib.Numerals.{add-one}
 use native.Mathlib.Omega.{arith}
-use borrow.Author.Rules.{rules}
 use borrow.Author.Tests.{not-true, not-false}
 use lib.ListN.{length, get_or, drop, length-append, drop_of_length-le}
 use lib.Seq.{drop-cons}
@@ -17,26 +16,13 @@ use Rattle.lattice_nodes.specs.Laws.Alike.{Alike}
 use Rattle.lattice_nodes.specs.Laws.Whole.{all_parts, whole_walked}
 use Rattle.lattice_stretch.specs.Progress.{Crosses, Split}
 use Rattle.lattice_stretch.specs.Laws.Crossing.{none_crossed, paid_for, kept, reordered, cut_off, then_more}
-use Rattle.lattice_walk.proofs.cross_whole.Statement.{statement}
-use Rattle.lattice_walk.proofs.cross_whole.Tie as tie
+use Rattle.lattice_walk.proofs.cross_whole.Invariants.{Far}
+use Rattle.lattice_walk.proofs.cross_whole.Goals as goal
 
 first_part : (span w b m : ℕ) (ms rest : List ℕ) → rest ≡ m ∷ ms → span ≡ node_count rest → w ≡ node_count ms
     → part_edges span w b ++ all_parts (b * (m + 1)) ms ≡ all_parts b rest
 unfolding all_parts
 first_part span w b m ms rest e k h = rw (h, k, e)
-
--- the parts from i on are left: the nodes are `blocks` blocks over them
-record Far (ws : List ℕ) (made budget : ℕ) (nodes₀ nodes : List ℕ) (span i n : ℕ) : Type 0 where
-  lattice : Weights ws (length nodes₀)
-  low : i ≤ length ws
-  size : length nodes ≡ length nodes₀
-  paid : n ≤ budget
-  here : span ≡ node_count (drop i lattice.tops)
-  blocks : ℕ
-  all : length nodes₀ ≡ blocks * span
-  done : List ℕ
-  crossed : Crosses done made budget nodes₀ nodes true n
-  left : done ++ all_parts blocks (drop i lattice.tops) ≡ all_parts 1 lattice.tops
 
 module _ (ws : List ℕ) (made budget : ℕ) (nodes₀ : List ℕ) where
   begin : Weights ws (length nodes₀) → made ≤ budget → Far ws made budget nodes₀ nodes₀ (length nodes₀) 0 made
@@ -129,74 +115,28 @@ module _ (ws : List ℕ) (made budget : ℕ) (nodes₀ : List ℕ) where
             cut_off _ _ _ _ _ _ _ longer t _ nodes'
             (omega (arith, (walked found).size, simp length-append at (ap length left'), length-append s.done (part_edges span w s.blocks)))
 
-abbrev invariant-loop : tie.invariant-loop
-invariant-loop weights nodes₀ made budget span₀ i₀ n₀ nodes span i n = Far weights made budget nodes₀ nodes span i n
+pub loop-i-init : goal.loop-i-init
+loop-i-init c = begin _ _ _ _ c.requires.small.lattice c.requires.made_le_budget
 
-abbrev decreases-loop : tie.decreases-loop
-decreases-loop weights nodes₀ made budget span₀ i₀ n₀ nodes span i n = length weights - i
+pub cross_part-crossed-requires : goal.cross_part-crossed-requires
+cross_part-crossed-requires c =
+    record {
+      split = split _ c.args.made c.args.budget _ _ _ _ c.loop-i.count c.loop-i.invariant c.loop-i-test.true;
+      made_le_budget = c.loop-i.invariant.paid;
+    }
 
-abbrev start : tie.At-loop invariant-loop decreases-loop → tie.Start invariant-loop decreases-loop
-start l = l.before.before.before
+pub returns-then-not-crossed : goal.returns-then-not-crossed
+returns-then-not-crossed c =
+    stop _ _ _ _ _ _ _ _ c.loop-i.invariant c.loop-i-test.true _ _ _ c.cross_part-crossed.ensures c.requires.fact
+    (not-true c.cross_part-crossed.result.ok c.if-not-crossed.true)
 
-loop-holds : tie.Need-loop-init invariant-loop decreases-loop
-loop-holds c = let s = c.before.before in begin _ _ _ _ s.requires.0.lattice s.requires.1.1
+pub loop-i-preserved : goal.loop-i-preserved
+loop-i-preserved c =
+    go_on _ _ _ _ _ _ _ _ c.loop-i.invariant c.loop-i-test.true _ _ _ c.cross_part-crossed.ensures
+    (not-false c.cross_part-crossed.result.ok c.if-not-crossed.false)
 
-mul-weight : tie.Need-overflow-mul-weight invariant-loop decreases-loop
-mul-weight c = search rules
+pub shape_of-nodes : goal.shape_of-nodes
+shape_of-nodes c = c.loop-i.invariant.size
 
-shared-slice-read-weight : tie.Need-shared-slice-read-weight invariant-loop decreases-loop
-shared-slice-read-weight c = search rules
-
-cross-part-requires : tie.Need-cross-part-requires invariant-loop decreases-loop
-cross-part-requires c κs =
-    let t =
-    c.before.before in let l = t.before in (
-      split _ (start l).args.made (start l).args.budget _ _ _ _ l.loop.count l.loop.inv t.loop-test.taken,
-      l.loop.inv.paid,
-    )
-
-same_length : tie.Need-same-length invariant-loop decreases-loop
-same_length c = let k = c.before.before.before.before in k.cross-part.auto.0 ∙ k.before.before.before.before.loop.invariant.size
-
-returns : tie.Need-returns invariant-loop decreases-loop
-returns c =
-    let k = c.before.before.before.before in
-    let t = k.before.before.before in
-    stop _ _ _ _ _ _ _ _ t.before.loop.invariant t.loop-test.true _ _ _ k.cross-part.ensures (start t.before).pre.1.0
-    (not-true k.cross-part.result.ok c.if1.true)
-
-add-i : tie.Need-overflow-add-i invariant-loop decreases-loop
-add-i c = search rules
-
-loop-less : tie.Need-loop-smaller invariant-loop decreases-loop
-loop-less c = search rules
-
-loop-again : tie.Need-loop-preserved invariant-loop decreases-loop
-loop-again c =
-    let k = c.before.before.before.before in
-    let t = k.before.before.before in
-    go_on _ _ _ _ _ _ _ _ t.before.loop.invariant t.loop-test.true _ _ _ k.cross-part.ensures (not-false k.cross-part.result.ok c.if1.false)
-
-same-length-2 : tie.Need-same-length-2 invariant-loop decreases-loop
-same-length-2 c = c.before.loop.invariant.size
-
-returns-2 : tie.Need-returns-2 invariant-loop decreases-loop
-returns-2 c = finish _ _ _ _ _ _ _ _ c.before.loop.invariant (start c.before).pre.1.0 c.loop-test.false
-
-pub cross-whole-spec : {M : Type 1} → statement M
-cross-whole-spec =
-    tie.close
-    (tie.spec
-    invariant-loop
-    decreases-loop
-    loop-holds
-    mul-weight
-    shared-slice-read-weight
-    cross-part-requires
-    same_length
-    returns
-    add-i
-    loop-less
-    loop-again
-    same-length-2
-    returns-2)
+pub returns : goal.returns
+returns c = finish _ _ _ _ _ _ _ _ c.loop-i.invariant c.requires.fact c.loop-i-test.false
