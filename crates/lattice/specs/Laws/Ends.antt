@@ -126,13 +126,13 @@ module _ (l : PreferenceList) (log : Log) (marks nodes : List ℕ) (budget : ℕ
                     answer_is = rw refusal (unfold outcome in refl);
                     marks_are = rw (refusal, s.marks_are, e) (take-append-drop (row_count log.values) marks);
                   },
-                  rw (refusal, s.nodes-are, e),
+                  rw (refusal, s.nodes_are, e),
                 )
 
             -- the bytes of the nodes, and the marks by them
             bytes_are : ok ≡ true → nodes' ≡ node_bytes tops rows
             bytes_are e =
-                s.nodes-are
+                s.nodes_are
                 ∙ rw (e, walk_is)
                 (bytes_final tops rows valid (row_nodes l log) (λ y h. rows_hold l log y (omega arith)))
 
