@@ -1,4 +1,5 @@
-// The flat calls: what a display written in C links to. include/shortlist.h says in words what the contracts here say.
+// The flat calls: what a display written in C links to, by the crate `console_c`. include/shortlist.h says in words what
+// the contracts here say.
 #![tactic(auto)]
 
 ghost use Rattle.std.specs.Prelude.{◌≡◌, length};
@@ -21,8 +22,7 @@ fn signed(selection: Selection) -> i32
 }
 
 // The shortlist of a stream, by the lattice engine within a budget of crossings.
-#[unsafe(no_mangle)]
-pub extern "C" fn shortlist_lattice(stream: &[u8], marks: &mut [u8], budget: u32) -> i32
+pub fn shortlist_lattice(stream: &[u8], marks: &mut [u8], budget: u32) -> i32
     ensures { Leaves (flat_lattice_call stream.now (length marks.old) budget)
         marks.old (signed_outcome result) marks.new }
 {
@@ -36,8 +36,7 @@ pub extern "C" fn shortlist_lattice(stream: &[u8], marks: &mut [u8], budget: u32
 }
 
 // The shortlist of a stream, by the window engine with a window of w entries.
-#[unsafe(no_mangle)]
-pub extern "C" fn shortlist_window(stream: &[u8], marks: &mut [u8], w: u32) -> i32
+pub fn shortlist_window(stream: &[u8], marks: &mut [u8], w: u32) -> i32
     ensures { Leaves (flat_window_call stream.now (length marks.old) w)
         marks.old (signed_outcome result) marks.new }
 {

@@ -1,3 +1,4 @@
+pub mod Log
 pub mod Part
 pub mod Runs
 pub mod Stored

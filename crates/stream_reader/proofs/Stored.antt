@@ -87,8 +87,8 @@ pub record Next (s : List ℕ) (log₀ log : List ℤ) (at to : ℕ) : Type 0 wh
   pub stored : Stored s log₀ (sets log to (values_at s at)) (at + (1 + body_of (drop at s))) (to + length (values_at s at))
 
 module _ (s : List ℕ) (log₀ log : List ℤ) (at to : ℕ) where
-  next : (n : ℕ) → at < length s → (records s).refusal ≡ 0 → sets log to (values_from n (drop at s)) ≡ sets log₀ 0 (values_of s) → length s ≤ at + n
-      → to + length (values_from n (drop at s)) ≤ length log₀ → Stored s log₀ log at to → Next s log₀ log at to
+  next : (n : ℕ) → at < length s → (records s).refusal ≡ 0 → sets log to (values_from n (drop at s)) ≡ sets log₀ 0 (values_of s)
+      → length s ≤ at + n → to + length (values_from n (drop at s)) ≤ length log₀ → Stored s log₀ log at to → Next s log₀ log at to
   next zero h all w k m b = absurd (omega arith)
   next (suc n) h all w k m b =
       let v = values_at s at in

@@ -166,6 +166,7 @@ fn put_runs(s: &[u8], log: &mut [i32])
 }
 
 // Reads a stream. The log is written once the whole stream is accepted.
+#[tactic(auto, using(crate::proofs::Log::reading))]
 pub fn read(stream: &[u8], log: &mut [i32]) -> ReadAnswer
     ensures { (result ≡ read_of stream.now (length log.old))
         × (log.new ≡ log_after stream.now log.old) }

@@ -44,6 +44,7 @@ fn out_of_place(class: Class, r: ReadAnswer) -> bool
 }
 
 // 6 for the layer, 7 for the 65th named value.
+#[tactic(auto, using(crate::proofs::Refusals::naming))]
 fn naming_refusal(list: PreferenceList, layer: u8) -> u8
     requires { list.count ≤ 8 }
     ensures { result ≡ naming_refusal list layer }
@@ -60,6 +61,7 @@ fn naming_refusal(list: PreferenceList, layer: u8) -> u8
 }
 
 // The number of a whole record in its place: 5, 6, 7, or 0.
+#[tactic(auto, using(crate::proofs::Refusals::runs))]
 fn figures_refusal(class: Class, r: ReadAnswer, t: &[u8]) -> u8
     requires { r.list.count ≤ 8 }
     ensures { result ≡ figures_refusal class r t.now }

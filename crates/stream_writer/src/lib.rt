@@ -17,6 +17,7 @@ use preference::PreferenceList;
 use stream_format::WriteAnswer;
 
 // The named value at place k, where it belongs to the preference at place i.
+#[tactic(auto, using(crate::proofs::Owned::owned))]
 fn put_named_of(out: &mut [u8], at: usize, list: PreferenceList, i: usize, k: usize) -> usize
     requires { (at + named_record < usize_end) × (k < max_named) }
     ensures { Puts out.old out.new at result (named_bytes_of list i k) }

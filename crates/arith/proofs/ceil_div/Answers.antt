@@ -1,4 +1,3 @@
-use borrow.Author.Rules.{rules}
 use native.Mathlib.Omega.{arith}
 use mathlib.Core.Path.{sym}
 use Rattle.arith.specs.Laws.Ceil.{ceil_zero, ceil_even, ceil_more, ceil_bound}

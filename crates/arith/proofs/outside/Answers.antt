@@ -1,7 +1,6 @@
 use mathlib.Core.Path.{◌≡◌}
 use Prim.Native.Nat.{◌+◌}
 use native.Mathlib.Omega.{arith}
-use borrow.Author.Rules.{rules}
 use Rattle.arith.specs.Gap.{gap}
 use Rattle.arith.specs.Laws.Gap.{outside_small}
 use Rattle.arith.specs.Laws.Local.{num}

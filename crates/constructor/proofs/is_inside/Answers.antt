@@ -1,6 +1,5 @@
 use Rattle.arith.specs.Laws.Local.{num}
 use Rattle.constructor.specs.Level.{inside}
-use borrow.Author.Rules.{rules}
 use Rattle.constructor.proofs.is_inside.Goals as goal
 
 pub returns : goal.returns

@@ -1,7 +1,6 @@
 use Rattle.arith.specs.Laws.Local.{num}
 use mathlib.Core.Path.{sym, ap}
 use Rattle.constructor.specs.Valid.{sound}
-use borrow.Author.Rules.{rules}
 use Rattle.constructor.proofs.is_sound.Goals as goal
 
 pub returns-in-Lowest : goal.returns-in-Lowest

@@ -3,8 +3,6 @@ use borrow.Author.Tests.{lt-ltb, le-ltb}
 use Rattle.laws.specs.Checks.{◌gives◌}
 use Rattle.constructor.specs.Valid.{layer_refusal, refusal_under}
 use Rattle.constructor.specs.declared.Layering.{Layering}
-use borrow.Author.Rules.{rules}
-use Prim.Native.Nat.{◌-◌}
 use Rattle.constructor.proofs.layer_refusal.Goals as goal
 
 pub returns-in-Numeric : goal.returns-in-Numeric

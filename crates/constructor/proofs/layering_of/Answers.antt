@@ -1,6 +1,5 @@
 use mathlib.Core.Path.{sym, ap}
 use Rattle.constructor.specs.Level.{layering_of}
-use borrow.Author.Rules.{rules}
 use Rattle.constructor.proofs.layering_of.Goals as goal
 
 pub returns-in-Layered : goal.returns-in-Layered

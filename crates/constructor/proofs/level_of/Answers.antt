@@ -1,4 +1,3 @@
-use borrow.Author.Rules.{rules}
 use Rattle.arith.specs.Laws.Local.{num}
 use Rattle.constructor.specs.Laws.Target.{distance_outside}
 use Rattle.constructor.proofs.level_of.Goals as goal

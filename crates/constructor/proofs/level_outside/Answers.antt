@@ -1,4 +1,3 @@
-use borrow.Author.Rules.{rules}
 use Rattle.arith.specs.Laws.Local.{num}
 use Rattle.constructor.proofs.level_outside.Goals as goal
 

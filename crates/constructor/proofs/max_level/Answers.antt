@@ -1,7 +1,6 @@
 use mathlib.Core.Path.{sym, ◌∙◌}
 use Rattle.arith.specs.Laws.Local.{num}
 use Rattle.constructor.specs.Level.{max_level}
-use borrow.Author.Rules.{rules}
 use Rattle.constructor.proofs.max_level.Goals as goal
 
 pub returns-in-Numeric : goal.returns-in-Numeric

@@ -1,4 +1,3 @@
-use borrow.Author.Rules.{rules}
 use Rattle.constructor.proofs.part_in.Goals as goal
 
 pub returns-then-pair : goal.returns-then-pair

@@ -1,5 +1,3 @@
-use mathlib.Core.Path.{◌∙◌}
-use borrow.Author.Rules.{rules}
 use Rattle.arith.specs.Laws.Local.{num}
 use Rattle.constructor.proofs.part_outside.Goals as goal
 

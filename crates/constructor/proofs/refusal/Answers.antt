@@ -1,9 +1,7 @@
 use mathlib.Core.Path.{sym}
-use borrow.Author.Tests.{lt-ltb, le-ltb, not-true, not-false}
+use borrow.Author.Tests.{lt-ltb, le-ltb}
 use Rattle.laws.specs.Checks.{◌gives◌, ◌then◌}
 use Rattle.constructor.specs.Valid.{constructor_refusal}
-use borrow.Author.Rules.{rules}
-use Prim.Native.Nat.{◌-◌}
 use Rattle.constructor.proofs.refusal.Goals as goal
 
 pub returns-then-not-is_sound : goal.returns-then-not-is_sound

@@ -1,7 +1,6 @@
 use Rattle.arith.specs.Laws.Local.{num}
 use mathlib.Core.Path.{sym, ap}
 use Rattle.constructor.specs.Level.{scale_of}
-use borrow.Author.Rules.{rules}
 use Rattle.constructor.proofs.scale_of.Goals as goal
 
 pub returns-in-Lowest : goal.returns-in-Lowest

@@ -1,4 +1,3 @@
-use borrow.Author.Rules.{rules}
 use Rattle.arith.specs.Laws.Local.{num}
 use Rattle.constructor.specs.Side.{side_of}
 use Rattle.constructor.proofs.side_of.Goals as goal

@@ -1,5 +1,4 @@
 use mathlib.Core.Path.{sym, ap}
-use borrow.Author.Rules.{rules}
 use Rattle.arith.specs.Laws.Local.{num}
 use Rattle.constructor.specs.Level.{target_of}
 use Rattle.constructor.proofs.target_of.Goals as goal

@@ -1,14 +1,14 @@
 -- Sides in document 02's words, form by form, and the parts of a pair (000, Theorem 16; 003, Theorem 2).
 use Rattle.std.proofs.Math.Path.{◌≡◌, refl, sym}
 use Rattle.std.proofs.Common.{ap, ◌∙◌, arith}
-use Rattle.std.specs.Prelude.{ℕ, zero, suc, ◌+◌, ◌-◌, ◌<◌, ◌≤◌, Bool, List, [], ◌∷◌, ℤ, pos, negsuc, get_or, length}
+use Rattle.std.specs.Prelude.{ℕ, zero, suc, ◌+◌, ◌<◌, ◌≤◌, Bool, [], ◌∷◌, ℤ, get_or, length}
 use Rattle.std.proofs.Math.Bool.{true, false, cond}
 use Rattle.std.specs.Int.Signed.{le_z, mag}
 use Rattle.arith.specs.Gap.{gap}
 use Rattle.arith.specs.Ceil.{ceil_div}
 use Rattle.arith.specs.Laws.Gap.{gap_none, gap_some, le_refl_z}
 use Rattle.arith.specs.Laws.Ceil.{ceil_none}
-use Rattle.constructor.specs.Level.{distance, scale_of, target_of, layering_of, numeric_level, max_level}
+use Rattle.constructor.specs.Level.{distance, scale_of, target_of, numeric_level, max_level}
 use Rattle.constructor.specs.Side.{side_by, side_of, is_pair, pair_of, parts_of, tops_of, part_in}
 use Rattle.constructor.specs.Laws.Papers.{level_best}
 use Rattle.constructor.specs.Laws.Target.{least_below, greatest_above, distance_outside}

@@ -1,5 +1,4 @@
 use mathlib.Core.Path.{◌≡◌, sym, ◌∙◌}
-use Prim.Native.Nat.{◌≤◌, ◌-◌}
 use mathlib.Core.Bool.{true}
 use mir.Val.{to_z, of_z}
 use mir.Syntax.{w32}
@@ -25,12 +24,11 @@ returns-then-same c =
     rw (← c.least-counted.ensures, e, lt-ltb c.loop-k.k c.least-counted.result l)
 
 pub loop-k-preserved : goal.loop-k-preserved
-loop-k-preserved c =
-    (
-      search rules,
-      search_on (is_value c.args.values.now (to_z w32 (of_z w32 c.args.v))) c.loop-k.k c.loop-k.invariant.1
-          (sym (rw (num _ c.value-1.given) at c.same.ensures) ∙ c.if-same.false),
-    )
+loop-k-preserved c = (
+  search rules,
+  search_on (is_value c.args.values.now (to_z w32 (of_z w32 c.args.v))) c.loop-k.k c.loop-k.invariant.1
+      (sym (rw (num _ c.value-1.given) at c.same.ensures) ∙ c.if-same.false),
+)
 
 pub returns : goal.returns
 returns c =

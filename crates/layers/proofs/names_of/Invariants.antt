@@ -1,12 +1,7 @@
-use mathlib.Core.Path.{◌≡◌, refl, ◌∙◌}
-use Prim.Native.Nat.{◌≤◌, ◌<◌, ◌-◌, min}
-use lib.ListN.{length, length-set}
-use borrow.Author.Rules.{rules}
-use native.Mathlib.Omega.{arith}
-use Rattle.arith.specs.Laws.Local.{num}
-use Rattle.preference.specs.List.{named_at}
-use Rattle.preference.specs.Level.{layer_of}
-use Rattle.preference.specs.Laws.Names.{Gathered, gathered_none, gathered_more}
+use mathlib.Core.Path.{◌≡◌}
+use Prim.Native.Nat.{◌≤◌, ◌-◌}
+use lib.ListN.{length}
+use Rattle.preference.specs.Laws.Names.{Gathered}
 use Rattle.layers.proofs.names_of.Given as goal
 
 abbrev pub invariant-loop-k : goal.invariant-loop-k

@@ -1,12 +1,6 @@
-use borrow.Author.Rules.{rules}
-use native.Mathlib.Omega.{arith}
 use Prim.Native.Nat.{◌≤◌, ◌-◌}
-use mathlib.Core.Path.{◌≡◌, refl}
-use mir.Val.{to_z, of_z}
-use mir.Syntax.{w32}
-use Rattle.arith.specs.Laws.Local.{num}
+use mathlib.Core.Path.{◌≡◌}
 use Rattle.laws.specs.First.{first_at}
-use Rattle.laws.specs.Laws.First.{search_past}
 use Rattle.preference.specs.Names.{is_value}
 use Rattle.layers.proofs.passed_over.Given as goal
 

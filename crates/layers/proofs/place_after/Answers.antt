@@ -1,5 +1,4 @@
 use borrow.Author.Tests.{eq-eqb, ne_eqb}
-use borrow.Author.Rules.{rules}
 use Rattle.layers.proofs.place_after.Goals as goal
 
 pub returns-then-owner-i : goal.returns-then-owner-i

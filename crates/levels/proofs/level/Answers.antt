@@ -8,7 +8,6 @@ use Rattle.laws.specs.Laws.Checks.{then_first}
 use Rattle.laws.specs.Laws.Outcome.{outcome_accepted, outcome_refused}
 use Rattle.preference.specs.Level.{told_at, level_refusal, value_refusal}
 use Rattle.preference.specs.Laws.Level.{level_small}
-use borrow.Author.Rules.{rules}
 use native.Mathlib.Omega.{arith}
 use Rattle.levels.proofs.level.Goals as goal
 

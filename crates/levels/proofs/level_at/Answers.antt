@@ -2,7 +2,6 @@ use mathlib.Core.Path.{sym, ◌∙◌, ap}
 use Rattle.arith.specs.Laws.Local.{num}
 use Rattle.constructor.specs.Level.{layering_of}
 use Rattle.preference.specs.Level.{level_at}
-use borrow.Author.Rules.{rules}
 use Rattle.levels.proofs.level_at.Goals as goal
 
 pub returns-in-Numeric : goal.returns-in-Numeric

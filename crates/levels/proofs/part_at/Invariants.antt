@@ -1,19 +1,11 @@
-use borrow.Author.Rules.{rules}
-use borrow.Author.Tests.{lt-ltb, le-ltb}
-use native.Mathlib.Omega.{arith}
-use native.Mathlib.Numerals.{add-one}
-use Prim.Native.Nat.{ℕ, suc, ◌+◌, ◌≤◌, ◌-◌, ◌*◌}
-use mathlib.Core.Path.{◌≡◌, refl, sym, ap, ◌∙◌}
-use mathlib.Core.Bool.{Bool, true, false}
+use Prim.Native.Nat.{ℕ, suc, ◌≤◌, ◌-◌, ◌*◌}
+use mathlib.Core.Path.{◌≡◌}
+use mathlib.Core.Bool.{Bool}
 use lib.Dec.{ltb}
 use lib.ListN.{length}
 use Rattle.laws.specs.First.{first_at}
 use Rattle.laws.specs.Lists.{joined}
-use Rattle.laws.specs.Laws.First.{search_on, search_hit}
-use Rattle.laws.specs.Laws.Joined.{joined_longer}
-use Rattle.preference.specs.List.{places}
-use Rattle.preference.specs.Parts.{max_parts, part_of}
-use Rattle.preference.specs.declared.PartAt.{PartAt}
+use Rattle.preference.specs.Parts.{max_parts}
 use Rattle.preference.specs.declared.PreferenceList.{PreferenceList}
 use Rattle.levels.proofs.part_at.Given as goal
 

@@ -1,6 +1,5 @@
 use mathlib.Core.Path.{sym, ap, ◌∙◌}
 use lib.ListN.{get_or-eq_default}
-use borrow.Author.Rules.{rules}
 use Rattle.constructor.specs.Level.{max_level}
 use Rattle.preference.specs.List.{constructor_at}
 use Rattle.preference.specs.Level.{max_at}

@@ -1,12 +1,8 @@
-use borrow.Author.Rules.{rules}
-use native.Mathlib.Omega.{arith}
 use Prim.Native.Nat.{◌≤◌, ◌-◌, ◌*◌}
-use mathlib.Core.Path.{◌≡◌, refl, sym, ap, ◌∙◌}
+use mathlib.Core.Path.{◌≡◌}
 use lib.ListN.{length}
 use Rattle.laws.specs.Lists.{joined}
-use Rattle.laws.specs.Laws.Joined.{joined_longer}
-use Rattle.preference.specs.List.{places}
-use Rattle.preference.specs.Parts.{max_parts, max_levels}
+use Rattle.preference.specs.Parts.{max_parts}
 use Rattle.levels.proofs.parts.Given as goal
 
 abbrev pub invariant-loop-i : goal.invariant-loop-i

@@ -1,7 +1,6 @@
 use mathlib.Core.Path.{sym, ap, ◌∙◌}
 use lib.ListN.{length}
 use native.Mathlib.Omega.{arith}
-use borrow.Author.Rules.{rules}
 use Rattle.constructor.specs.Laws.Side.{tops_pair, tops_single}
 use Rattle.preference.specs.List.{constructor_at}
 use Rattle.levels.proofs.place_parts.Goals as goal

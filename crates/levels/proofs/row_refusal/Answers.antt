@@ -1,15 +1,11 @@
 use borrow.Author.Rules.{rules}
 use native.Mathlib.Omega.{arith}
-use Prim.Native.Nat.{ℕ, ◌≤◌, ◌-◌}
 use mathlib.Core.Path.{◌≡◌}
-use lib.IntN.{ℤ}
-use mathlib.Core.List.{List}
 use mathlib.Core.Path.{sym, refl, ◌∙◌}
-use Rattle.laws.specs.First.{first_at, is_refusal}
+use Rattle.laws.specs.First.{first_at}
 use Rattle.laws.specs.Laws.First.{refusal_on, refusal_hit, refusal_none}
 use Rattle.preference.specs.Level.{value_refusal}
-use Rattle.preference.specs.Parts.{row_value, row_refusal}
-use Rattle.preference.specs.declared.PreferenceList.{PreferenceList}
+use Rattle.preference.specs.Parts.{row_refusal}
 use Rattle.levels.proofs.row_refusal.Invariants.{checks}
 use Rattle.levels.proofs.row_refusal.Goals as goal
 

@@ -1,4 +1,3 @@
-use borrow.Author.Rules.{rules}
 use Rattle.arith.specs.Laws.Local.{num}
 use Rattle.laws.specs.Laws.Checks.{gives_yes, gives_no}
 use mathlib.Core.Bool.{not}

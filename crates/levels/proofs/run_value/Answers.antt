@@ -1,6 +1,5 @@
 use Rattle.arith.specs.Laws.Local.{num}
 use mathlib.Core.Path.{◌∙◌}
-use borrow.Author.Rules.{rules}
 use Rattle.levels.proofs.run_value.Goals as goal
 
 pub returns : goal.returns

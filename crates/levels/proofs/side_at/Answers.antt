@@ -1,5 +1,3 @@
-use mathlib.Core.Path.{◌∙◌}
-use borrow.Author.Rules.{rules}
 use Rattle.arith.specs.Laws.Local.{num}
 use Rattle.preference.specs.Level.{side_at}
 use Rattle.levels.proofs.side_at.Goals as goal

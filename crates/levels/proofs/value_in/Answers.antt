@@ -1,7 +1,6 @@
 use lib.IntN.{pos}
 use lib.ListN.{get_or-eq_default}
 use mathlib.Core.Path.{sym}
-use borrow.Author.Rules.{rules}
 use native.Mathlib.Omega.{arith}
 use Rattle.levels.proofs.value_in.Goals as goal
 

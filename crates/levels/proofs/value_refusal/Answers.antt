@@ -3,7 +3,6 @@ use Rattle.arith.specs.Laws.Local.{num}
 use Rattle.laws.specs.Laws.Checks.{gives_yes, gives_no}
 use Rattle.preference.specs.Level.{value_refusal}
 use mathlib.Core.Bool.{not}
-use borrow.Author.Rules.{rules}
 use Rattle.levels.proofs.value_refusal.Goals as goal
 
 pub returns-then-is_inside : goal.returns-then-is_inside

@@ -1,8 +1,6 @@
 use borrow.Author.Tests.{lt-ltb, le-ltb}
 use Rattle.laws.specs.Checks.{◌gives◌, ◌then◌}
 use Rattle.preference.specs.Valid.{column_refusal}
-use borrow.Author.Rules.{rules}
-use Prim.Native.Nat.{◌-◌}
 use Rattle.preference.proofs.column_refusal.Goals as goal
 
 pub returns-then-column-gt7 : goal.returns-then-column-gt7

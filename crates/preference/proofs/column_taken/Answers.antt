@@ -5,7 +5,6 @@ use Rattle.laws.specs.Laws.First.{any_hit, any_none, search_on}
 use Rattle.preference.specs.Valid.{has_column}
 use borrow.Author.Rules.{rules}
 use native.Mathlib.Omega.{arith}
-use Prim.Native.Nat.{◌≤◌, ◌-◌}
 use mathlib.Core.Path.{◌≡◌}
 use Rattle.preference.proofs.column_taken.Goals as goal
 

@@ -1,10 +1,6 @@
-use mathlib.Core.Path.{◌≡◌, refl, sym}
-use borrow.Author.Tests.{eq-eqb, ne_eqb}
+use mathlib.Core.Path.{◌≡◌}
 use Rattle.laws.specs.First.{first_at}
-use Rattle.laws.specs.Laws.First.{any_hit, any_none, search_on}
 use Rattle.preference.specs.Valid.{has_column}
-use borrow.Author.Rules.{rules}
-use native.Mathlib.Omega.{arith}
 use Prim.Native.Nat.{◌≤◌, ◌-◌}
 use mathlib.Core.Path.{◌≡◌}
 use Rattle.preference.proofs.column_taken.Given as goal

@@ -1,8 +1,6 @@
 use borrow.Author.Tests.{le-leb, lt-leb, lt-ltb, le-ltb}
 use Rattle.laws.specs.Checks.{◌gives◌, ◌then◌}
 use Rattle.preference.specs.Valid.{named_refusal}
-use borrow.Author.Rules.{rules}
-use Prim.Native.Nat.{◌-◌}
 use Rattle.preference.proofs.named_refusal.Goals as goal
 
 pub returns-then-count-at : goal.returns-then-count-at

@@ -1,9 +1,6 @@
-use mathlib.Core.Path.{◌≡◌, refl, sym, ◌∙◌}
+use mathlib.Core.Path.{◌≡◌}
 use Rattle.laws.specs.First.{first_at, is_refusal}
-use Rattle.laws.specs.Laws.First.{refusal_on, refusal_hit, refusal_none}
 use Rattle.preference.specs.Valid.{place_refusal}
-use borrow.Author.Rules.{rules}
-use native.Mathlib.Omega.{arith}
 use Prim.Native.Nat.{◌≤◌, ◌-◌}
 use mathlib.Core.Path.{◌≡◌}
 use Rattle.preference.proofs.places_refusal.Given as goal

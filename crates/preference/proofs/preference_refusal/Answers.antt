@@ -1,5 +1,4 @@
 use Rattle.preference.specs.Valid.{preference_refusal}
-use borrow.Author.Rules.{rules}
 use Rattle.preference.proofs.preference_refusal.Goals as goal
 
 pub returns : goal.returns

@@ -5,8 +5,6 @@ use Rattle.laws.specs.Checks.{◌gives◌, ◌then◌}
 use Rattle.laws.specs.Laws.Bools.{neither}
 use Rattle.laws.specs.Laws.Checks.{then_first, then_next}
 use Rattle.preference.specs.Valid.{list_refusal}
-use borrow.Author.Rules.{rules}
-use Prim.Native.Nat.{◌-◌}
 use Rattle.preference.proofs.refusal.Goals as goal
 
 pub returns-then-count : goal.returns-then-count

@@ -1,6 +1,6 @@
 -- "places past the counts .. are no part of the list": two lists with the same counts and the same counted places are
 -- refused alike, and have the same levels.
-use Rattle.std.specs.Prelude.{◌≡◌, ℕ, ◌-◌, ◌<◌, min, Bool, cond, ◌&&◌, List, [], ◌∷◌, ltb, leb, ℤ}
+use Rattle.std.specs.Prelude.{◌≡◌, ℕ, ◌-◌, ◌<◌, min, Bool, cond, ◌&&◌, List, ltb, leb, ℤ}
 use Rattle.std.proofs.Math.Path.{refl, ap}
 use Rattle.std.proofs.Common.{◌∙◌, arith, lt_of_lt_of_le, leb-false, ltb-true}
 use Rattle.std.proofs.Math.Nat.{min-le_left}

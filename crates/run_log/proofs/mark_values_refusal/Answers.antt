@@ -1,11 +1,6 @@
 use mathlib.Core.Path.{◌≡◌, refl, sym, ◌∙◌}
-use mathlib.Core.Bool.{Bool}
-use mathlib.Core.List.{List}
-use Prim.Native.Nat.{ℕ, ◌≤◌, ◌-◌}
 use native.Mathlib.Omega.{arith}
 use borrow.Author.Rules.{rules}
-use lib.Dec.{ltb}
-use lib.ListN.{get_or}
 use Rattle.laws.specs.First.{first_at}
 use Rattle.laws.specs.Laws.First.{search_on, any_hit, any_none}
 use Rattle.laws.specs.Laws.Checks.{gives_yes, gives_no}

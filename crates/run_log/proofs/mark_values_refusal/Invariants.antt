@@ -1,15 +1,11 @@
-use mathlib.Core.Path.{◌≡◌, refl, sym, ◌∙◌}
+use mathlib.Core.Path.{◌≡◌}
 use mathlib.Core.Bool.{Bool}
 use mathlib.Core.List.{List}
 use Prim.Native.Nat.{ℕ, ◌≤◌, ◌-◌}
-use native.Mathlib.Omega.{arith}
-use borrow.Author.Rules.{rules}
 use lib.Dec.{ltb}
 use lib.ListN.{get_or}
 use Rattle.laws.specs.First.{first_at}
-use Rattle.laws.specs.Laws.First.{search_on, any_hit, any_none}
-use Rattle.laws.specs.Laws.Checks.{gives_yes, gives_no}
-use Rattle.run_log.specs.Log.{row_count, mark_values_refusal}
+use Rattle.run_log.specs.Log.{row_count}
 use Rattle.run_log.proofs.mark_values_refusal.Given as goal
 
 abbrev pub no_mark : List ℕ → ℕ → Bool

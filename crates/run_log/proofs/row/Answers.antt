@@ -4,7 +4,6 @@ use native.Mathlib.Omega.{arith}
 use native.Mathlib.Nat.{add-sub_cancel_left}
 use lib.ListN.{length, take, drop, length-drop, drop_of_length-le}
 use lib.Seq.{take_all, take-nil, drop-length}
-use borrow.Author.Rules.{rules}
 use Rattle.run_log.proofs.row.Goals as goal
 
 pub returns-then-r-rows : goal.returns-then-r-rows

@@ -6,7 +6,6 @@ use Rattle.laws.specs.Checks.{◌gives◌, ◌then◌}
 use Rattle.laws.specs.Laws.Stores.{stored_front}
 use Rattle.laws.specs.Laws.Checks.{then_none, then_next, gives_none, gives_no}
 use Rattle.run_log.specs.Log.{log_refusal}
-use Rattle.run_log.specs.Laws.Log.{accepted}
 use Rattle.preference.specs.Valid.{list_refusal}
 use Rattle.preference.specs.declared.PreferenceList.{PreferenceList}
 use Rattle.stream_format.specs.Read.{read_of, values_of}

@@ -1,6 +1,4 @@
-use borrow.Author.Rules.{rules}
 use mathlib.Core.Path.{◌∙◌}
-use borrow.Author.Rules.{rules}
 use Rattle.word.specs.Word.{word_at}
 use Rattle.word.proofs.cut_u32.Goals as goal
 

@@ -1,6 +1,4 @@
-use borrow.Author.Rules.{rules}
 use mathlib.Core.Path.{sym}
-use borrow.Author.Rules.{rules}
 use Rattle.word.specs.Word.{word_at}
 use Rattle.word.specs.Laws.Word.{word_out}
 use Rattle.word.proofs.get_u32.Goals as goal

@@ -1,6 +1,5 @@
 use lib.ListN.{get_or-eq_default}
 use mathlib.Core.Path.{sym}
-use borrow.Author.Rules.{rules}
 use Rattle.word.proofs.get_u8.Goals as goal
 
 pub returns-else-at-s : goal.returns-else-at-s

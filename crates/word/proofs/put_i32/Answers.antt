@@ -4,7 +4,6 @@ use mir.Syntax.{w32}
 use mir.Val.{of_z}
 use mir.ValLaws.{to_z-of_z}
 use Rattle.word.specs.Word.{word_bytes, int_bytes}
-use borrow.Author.Rules.{rules}
 use Prim.Native.Nat.{ℕ}
 use Rattle.word.proofs.put_i32.Goals as goal
 

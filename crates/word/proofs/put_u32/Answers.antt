@@ -2,7 +2,6 @@ use Prim.Native.Nat.{suc, ◌+◌}
 use mathlib.Core.Path.{sym, ◌≡◌}
 use Rattle.word.specs.Word.{word_bytes}
 use Rattle.laws.specs.Laws.Stores.{sets_out}
-use borrow.Author.Rules.{rules}
 use native.Mathlib.Omega.{arith}
 use Rattle.word.proofs.put_u32.Goals as goal
 

@@ -1,6 +1,5 @@
 use lib.Seq.{set_out}
 use mathlib.Core.Path.{sym}
-use borrow.Author.Rules.{rules}
 use Rattle.word.proofs.put_u8.Goals as goal
 
 pub returns-else-at-out : goal.returns-else-at-out

@@ -1,0 +1,24 @@
+use borrow.Author.Rules.{rules}
+use native.Mathlib.Omega.{arith}
+use Prim.Native.Nat.{◌≤◌, ◌<◌, ◌-◌}
+use mathlib.Core.Path.{refl, sym, ap, ◌∙◌, ◌≡◌}
+use mathlib.Core.Bool.{Bool}
+use mathlib.Core.Logic.{⊎_elim}
+use lib.ListN.{length}
+use borrow.Author.Tests.{eq-eqb, ne_eqb, not-true, not-false}
+use Rattle.window_machine.specs.Machine.{Entry}
+use Rattle.window_entries.specs.Entries.{entry_at, Flags}
+use Rattle.window_entries.specs.Laws.Entries.{length_put}
+use Rattle.window_entries.proofs.Packed.{Packed, pack_from, read_is, skip_read, keep_read, pack_filtered}
+use Rattle.window_entries.proofs.remove.Given as goal
+
+abbrev pub invariant-loop-i : goal.invariant-loop-i
+invariant-loop-i l =
+    (l.from ≤ l.i)
+    × (l.m ≤ l.i)
+    × (l.i ≤ l.occupied)
+    × (length l.work ≡ length l.initial.work)
+    × ((p : Entry → Bool) → Flags p l.initial.work l.from l.occupied l.flags → Packed p l.initial.work l.work l.occupied l.i l.m)
+
+abbrev pub decreases-loop-i : goal.decreases-loop-i
+decreases-loop-i l = l.occupied - l.i

@@ -1,0 +1,15 @@
+use mathlib.Core.Path.{refl, ◌∙◌, ◌≡◌}
+use Rattle.window_step.specs.Work.{table_dominates}
+use Rattle.window_passes.proofs.Running.{Running, running_start, running_ready, running_last, running_more, running_out}
+use borrow.Author.Rules.{rules}
+use native.Mathlib.Omega.{arith}
+use Prim.Native.Nat.{ℕ, ◌<◌}
+use lib.ListN.{length}
+use Rattle.window_passes.proofs.all_passes.Given as goal
+
+abbrev pub invariant-loop-left : goal.invariant-loop-left
+invariant-loop-left l =
+    (length l.flags ≡ length l.initial.flags) × Running (table_dominates l.table) l.w l.n l.fuel l.initial.work l.initial.marks l.work l.marks l.standing l.left l.waiting
+
+abbrev pub decreases-loop-left : goal.decreases-loop-left
+decreases-loop-left l = l.left

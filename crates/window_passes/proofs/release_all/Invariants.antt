@@ -1,0 +1,16 @@
+use mathlib.Core.Path.{refl, sym, ap, ◌∙◌, ◌≡◌}
+use lib.ListN.{get_or, set, length-set, length}
+use Rattle.window_machine.specs.Machine.{marked}
+use Rattle.window_entries.specs.Entries.{entries}
+use Rattle.window_entries.specs.Laws.Entries.{mark_one, mark_all_end}
+use borrow.Author.Rules.{rules}
+use native.Mathlib.Omega.{arith}
+use Prim.Native.Nat.{ℕ, ◌<◌, ◌-◌, ◌*◌}
+use Rattle.window_passes.proofs.release_all.Given as goal
+
+abbrev pub invariant-loop-i : goal.invariant-loop-i
+invariant-loop-i l =
+    (length l.marks ≡ length l.initial.marks) × (marked (entries l.work l.i (l.occupied - l.i)) l.marks ≡ marked (entries l.work 0 l.occupied) l.initial.marks)
+
+abbrev pub decreases-loop-i : goal.decreases-loop-i
+decreases-loop-i l = l.occupied - l.i
