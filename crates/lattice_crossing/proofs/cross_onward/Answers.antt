@@ -24,23 +24,23 @@ overflow_add-a c = omega (arith, c.requires.block_at.ends, c.requires.block_at.f
 pub returns-then-nodes-a : goal.returns-then-nodes-a
 returns-then-nodes-a c =
     unfold onward_edges in
-    rw (le-ltb (c.args.a + c.args.w) (length c.args.nodes.now) c.if-nodes-a.true) (none_crossed _ _ _ c.requires.made_le_budget)
+    rw (le-ltb (c.args.a + c.args.w) (length c.args.nodes.now) (omega arith)) (none_crossed _ _ _ c.requires.made_le_budget)
 
 pub overflow_add-end : goal.overflow_add-end
 overflow_add-end c = omega (arith, c.requires.block_at.ends, c.requires.block_at.few)
 
 pub overflow_add-end-2 : goal.overflow_add-end-2
-overflow_add-end-2 c = omega (arith, c.requires.block_at.next c.if-nodes-a.false, c.requires.block_at.few)
+overflow_add-end-2 c = omega (arith, c.requires.block_at.next (omega arith), c.requires.block_at.few)
 
 pub slice_bounds-cross_stage-end : goal.slice_bounds-cross_stage-end
-slice_bounds-cross_stage-end c = omega (arith, c.requires.block_at.next c.if-nodes-a.false)
+slice_bounds-cross_stage-end c = omega (arith, c.requires.block_at.next (omega arith))
 
 pub cross_stage-requires : goal.cross_stage-requires
 cross_stage-requires c =
     record {
       w_le_max_nodes = (
         omega (arith, c.requires.block_at.ends, c.requires.block_at.few),
-        omega (arith, part_long c.args.a c.args.w c.args.nodes.now (c.requires.block_at.next c.if-nodes-a.false)),
+        omega (arith, part_long c.args.a c.args.w c.args.nodes.now (c.requires.block_at.next (omega arith))),
       );
       made_le_budget = c.requires.made_le_budget;
     }
@@ -50,8 +50,8 @@ returns c =
     let a = c.args.a in
     let w = c.args.w in
     let nodes = c.args.nodes.now in
-    let next = c.requires.block_at.next c.if-nodes-a.false in
+    let next = c.requires.block_at.next (omega arith) in
     unfold onward_edges in
-    rw (lt-ltb (a + w) (length nodes) c.if-nodes-a.false, both_is a w)
+    rw (lt-ltb (a + w) (length nodes) (omega arith), both_is a w)
     (of_part a (w + w) nodes (stage_edges w (drop a nodes) w) _ _ _ _ _ (omega arith) (stage_inside w (drop a nodes) w w (le_refl w))
     (rw (both_is a w, stage_front w (w + w) (drop a nodes) w (omega arith)) at c.cross_stage.ensures))
