@@ -1,4 +1,3 @@
-use borrow.Author.Rules.{rules}
 use mathlib.Core.Path.{ap}
 use Rattle.text.specs.Text.{signed}
 use Rattle.text.specs.Laws.Prints.{prints_then, prints_same}
@@ -17,7 +16,7 @@ returns c =
     (prints_then
     (prints_then
     (prints_then c.put_decimal-after_number.ensures c.put_byte-at_hours.ensures)
-    (prints_same (ap signed (num (get_or row 0 (pos 0)) (search rules))) c.put_signed-after_hours.ensures))
+    (prints_same (ap signed (num (get_or row 0 (pos 0)) c.put_signed-arg-2-1.given)) c.put_signed-after_hours.ensures))
     c.put_byte-at_metres.ensures)
-    (prints_same (ap signed (num (get_or row 1 (pos 0)) (search rules))) c.put_signed-end.ensures))
+    (prints_same (ap signed (num (get_or row 1 (pos 0)) c.put_signed-arg-4-1.given)) c.put_signed-end.ensures))
     c.put_byte.ensures
