@@ -22,20 +22,20 @@ pub returns-in-Best : goal.returns-in-Best
 returns-in-Best c =
     let after : List ℕ =
     c.by_either.new.marks in
-    let answers : (answer : Outcome ℕ) → selection.outcomeOf c.by_either.result ≡ answer
-      → Leaves (selection.eitherCall c.args.list (log_of c.args.log.now) (length zeros)) zeros answer after =
-    λ answer. λ e. leaves_told (selection.eitherCall c.args.list (log_of c.args.log.now) (length zeros)) zeros _ answer after (sym e)
+    let answers : (answer : Outcome ℕ) → selection.outcome_of c.by_either.result ≡ answer
+      → Leaves (selection.either_call c.args.list (log_of c.args.log.now) (length zeros)) zeros answer after =
+    λ answer. λ e. leaves_told (selection.either_call c.args.list (log_of c.args.log.now) (length zeros)) zeros _ answer after (sym e)
       c.by_either.ensures in
     selected_printed c.args.list (log_of c.args.log.now) zeros after c.args.out.now long
-    _ (outcome_of c.print.result) _ (search rules) (answers (accepted _) (ap selection.outcomeOf c.in-Best.is)) c.print.ensures
+    _ (outcome_of c.print.result) _ (search rules) (answers (accepted _) (ap selection.outcome_of c.in-Best.is)) c.print.ensures
 
 pub returns-in-Refused : goal.returns-in-Refused
 returns-in-Refused c =
     let after : List ℕ =
     c.by_either.new.marks in
-    let answers : (answer : Outcome ℕ) → selection.outcomeOf c.by_either.result ≡ answer
-      → Leaves (selection.eitherCall c.args.list (log_of c.args.log.now) (length zeros)) zeros answer after =
-    λ answer. λ e. leaves_told (selection.eitherCall c.args.list (log_of c.args.log.now) (length zeros)) zeros _ answer after (sym e)
+    let answers : (answer : Outcome ℕ) → selection.outcome_of c.by_either.result ≡ answer
+      → Leaves (selection.either_call c.args.list (log_of c.args.log.now) (length zeros)) zeros answer after =
+    λ answer. λ e. leaves_told (selection.either_call c.args.list (log_of c.args.log.now) (length zeros)) zeros _ answer after (sym e)
       c.by_either.ensures in
     selected_refused c.args.list (log_of c.args.log.now) zeros after c.args.out.now long
-    _ (answers (refused _) (ap selection.outcomeOf c.in-Refused.is))
+    _ (answers (refused _) (ap selection.outcome_of c.in-Refused.is))
