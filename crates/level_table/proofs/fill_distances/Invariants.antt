@@ -1,18 +1,10 @@
-use mathlib.Core.Path.{◌≡◌, refl, sym, ap, ◌∙◌}
-use Prim.Native.Nat.{◌≤◌, ◌-◌, ◌+◌, ◌*◌, ◌/◌, ◌%◌}
-use lib.ListN.{length, length-set}
-use mir.Val.{to_z}
-use mir.Syntax.{w32}
-use borrow.Author.Rules.{rules}
-use native.Mathlib.Omega.{arith}
-use Rattle.arith.specs.Laws.Local.{num}
-use Rattle.run_log.specs.Log.{row_at}
+use mathlib.Core.Path.{◌≡◌}
+use Prim.Native.Nat.{◌≤◌, ◌-◌, ◌/◌}
+use lib.ListN.{length}
 use Rattle.level_table.specs.Table.{part_at}
 use Rattle.level_table.specs.Filled.{with_part}
-use Rattle.level_table.specs.Laws.Rule.{Ruled, ruled_level}
-use Rattle.level_table.specs.Laws.Part.{with_part_more}
+use Rattle.level_table.specs.Laws.Rule.{Ruled}
 use Rattle.preference.specs.declared.PreferenceList.{PreferenceList}
-use Rattle.level_table.specs.declared.Rule.{Rule}
 use Rattle.level_table.proofs.fill_distances.Given as goal
 
 abbrev pub invariant-loop-r : goal.invariant-loop-r

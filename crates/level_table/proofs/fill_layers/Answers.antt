@@ -2,7 +2,6 @@ use mathlib.Core.Path.{ap, ◌∙◌}
 use Prim.Native.Nat.{ℕ, ◌/◌, ◌%◌}
 use lib.IntN.{pos}
 use lib.ListN.{get_or, length}
-use borrow.Author.Rules.{rules}
 use Rattle.run_log.specs.Log.{row_at}
 use Rattle.preference.specs.Level.{layer_of}
 use Rattle.preference.specs.declared.PartAt.{PartAt}

@@ -1,13 +1,8 @@
-use mathlib.Core.Path.{◌≡◌, refl, sym, ap, ◌∙◌}
-use Prim.Native.Nat.{ℕ, ◌≤◌, ◌<◌, ◌-◌, ◌+◌, ◌*◌, ◌/◌, ◌%◌}
-use native.Mathlib.Nat.{mod-eq_of_lt}
-use lib.ListN.{length, length-set}
-use borrow.Author.Rules.{rules}
-use native.Mathlib.Omega.{arith}
-use Rattle.arith.specs.Laws.Local.{num}
+use mathlib.Core.Path.{◌≡◌}
+use Prim.Native.Nat.{◌≤◌, ◌-◌, ◌/◌}
+use lib.ListN.{length}
 use Rattle.level_table.specs.Filled.{with_part}
 use Rattle.level_table.specs.Rule.{row_layer}
-use Rattle.level_table.specs.Laws.Part.{with_part_more}
 use Rattle.level_table.proofs.fill_named.Given as goal
 
 abbrev pub invariant-loop-r : goal.invariant-loop-r

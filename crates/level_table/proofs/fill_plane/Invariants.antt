@@ -1,12 +1,8 @@
-use mathlib.Core.Path.{◌≡◌, refl, ap, ◌∙◌}
-use Prim.Native.Nat.{ℕ, ◌+◌, ◌≤◌, ◌-◌, ◌/◌}
+use mathlib.Core.Path.{◌≡◌}
+use Prim.Native.Nat.{◌+◌, ◌≤◌, ◌-◌, ◌/◌}
 use lib.ListN.{length}
-use native.Mathlib.Numerals.{add-one}
-use native.Mathlib.Omega.{arith}
-use borrow.Author.Rules.{rules}
-use Rattle.level_table.specs.Table.{part_at, plane_of}
+use Rattle.level_table.specs.Table.{part_at}
 use Rattle.level_table.specs.Filled.{with_parts}
-use Rattle.level_table.specs.Laws.Filled.{parts_length, filled}
 use Rattle.level_table.proofs.fill_plane.Given as goal
 
 abbrev pub invariant-loop-k : goal.invariant-loop-k

@@ -6,7 +6,6 @@ use lib.IntN.{ℤ}
 use mathlib.Core.List.{List, ◌++◌, append-nil}
 use lib.ListN.{length, take, drop, length-drop, drop_of_length-le}
 use lib.Seq.{sets, length-sets, length-take-le, take_all}
-use borrow.Author.Rules.{rules}
 use borrow.Author.Tests.{lt-ltb, le-ltb}
 use Rattle.laws.specs.Laws.Stores.{stored_part}
 use Rattle.run_log.specs.Log.{row_count}

@@ -1,4 +1,3 @@
-use borrow.Author.Rules.{rules}
 use Rattle.level_table.specs.Table.{is_wide}
 use Rattle.level_table.proofs.is_wide.Goals as goal
 

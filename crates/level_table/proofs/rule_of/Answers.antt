@@ -2,7 +2,6 @@ use Prim.Native.Nat.{◌<◌}
 use lib.ListN.{length}
 use borrow.Author.Tests.{le-leb, lt-leb}
 use native.Mathlib.Omega.{arith}
-use borrow.Author.Rules.{rules}
 use Rattle.preference.specs.List.{places}
 use Rattle.preference.specs.Parts.{max_levels, part_of}
 use Rattle.preference.specs.Laws.Parts.{part_counted, part_past}

@@ -1,6 +1,5 @@
 use mathlib.Core.Path.{sym, ◌∙◌}
 use native.Mathlib.Omega.{arith}
-use borrow.Author.Rules.{rules}
 use Rattle.level_table.specs.Laws.Table.{table_narrow, table_wide}
 use Rattle.level_table.proofs.table_length.Goals as goal
 

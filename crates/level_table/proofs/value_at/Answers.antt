@@ -2,7 +2,6 @@ use mathlib.Core.Path.{ap, ◌∙◌}
 use mathlib.Core.List.{List}
 use lib.IntN.{ℤ, pos}
 use lib.ListN.{get_or}
-use borrow.Author.Rules.{rules}
 use Rattle.arith.specs.Laws.Local.{num}
 use Rattle.level_table.proofs.value_at.Goals as goal
 
