@@ -1,5 +1,5 @@
-// The flat calls: what a display written in C links to, by the crate `console_c`. include/shortlist.h says in words what
-// the contracts here say.
+// The flat calls, which a display written in C links to by the crate `console_c`. include/shortlist.h says in words
+// what the contracts here say.
 #![tactic(auto)]
 
 ghost use Rattle.std.specs.Prelude.{◌≡◌, length};

@@ -75,7 +75,8 @@ module _ (l : PreferenceList) (log : Log) (marks marks' : List ℕ) where
         b (λ z. p.1 (sym p.0 ∙ z)),
       )
 
-pub dominator_refused : (l : PreferenceList) (log : Log) (row k : ℕ) → RefusedBy l log row k → Among dominator_refusals k
+pub dominator_refused : (l : PreferenceList) (log : Log) (row k : ℕ) → RefusedBy l log row k
+    → Among dominator_refusals k
 dominator_refused l log row k a =
     some_among dominator_refusals (dominator_refusal l log row) k (sym a.refusal) a.some (dominator_among l log row)
 
@@ -117,7 +118,8 @@ module _ (s marks marks' : List ℕ) (k : ℕ) where
       (flat_window_among s (length marks) w) marks marks' k
 
 -- a program's `refused N`
-pub program_refused : (s : List ℕ) → ((program_call s).refusal ≡ 0 → ⊥) → Among program_refusals (program_call s).refusal
+pub program_refused : (s : List ℕ) → ((program_call s).refusal ≡ 0 → ⊥)
+    → Among program_refusals (program_call s).refusal
 program_refused s h = among_some program_refusals (program_call s).refusal h (program_among s)
 
 -- document 02, order 1: the sheet, of a log with marks and of a stream; the output is as it was

@@ -73,7 +73,8 @@ module _ (l : PreferenceList) (log : Log) where
 -- "An accepted flat call writes the same marks for the runs and wishes of its stream" (same_marks, by_flat_lattice and
 -- by_flat_window), "and returns 01's number of shortlisted rows in place of the count."
 module _ (s marks marks' : List ℕ) (best : ℕ) where
-  pub flat_lattice_result : (budget : ℕ) → Leaves (flat_lattice_call s (length marks) budget) marks (accepted best) marks'
+  pub flat_lattice_result : (budget : ℕ)
+      → Leaves (flat_lattice_call s (length marks) budget) marks (accepted best) marks'
       → best ≡ length (best_matches (list_in s) (log_in s))
   flat_lattice_result budget a = (accepted_leaves (flat_lattice_call s (length marks) budget) marks best marks' a).1
 

@@ -97,7 +97,8 @@ lattice l log n = record { asks = lattice_asked l log; expects = figures n }
 
 -- the lattice engine with a budget, marks and node bytes enough
 abbrev pub crossed : PreferenceList → Log → ℕ → ℕ → ℕ → ℕ → Case
-crossed l log rows nodes budget n = record { asks = lattice_called l log rows nodes budget; expects = ends (accepted n) }
+crossed l log rows nodes budget n =
+    record { asks = lattice_called l log rows nodes budget; expects = ends (accepted n) }
 
 abbrev pub not_crossed : PreferenceList → Log → ℕ → ℕ → ℕ → ℕ → Case
 not_crossed l log rows nodes budget k =

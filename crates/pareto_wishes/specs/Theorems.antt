@@ -43,7 +43,8 @@ pair_numeric (BetweenTrivial lo hi step low up) e = refl
 
 module _ (l : PreferenceList) (e : list_refusal l ≡ 0) where
   -- under kind 08 level 0 is inside, and every other level outside
-  sided : (i : ℕ) → i < places l → is_pair (constructor_at l i) ≡ true → (v : ℤ) → Sided (level_at l i v) (side_at l i v)
+  sided : (i : ℕ) → i < places l → is_pair (constructor_at l i) ≡ true → (v : ℤ)
+      → Sided (level_at l i v) (side_at l i v)
   unfolding level_at side_at
   sided i h p v =
       let c = constructor_at l i in
@@ -88,7 +89,8 @@ module _ (l : PreferenceList) (e : list_refusal l ≡ 0) where
         go true p =
             let c = constructor_at l i in
             rw (parts_pair c (level_at l i v) (side_at l i v) p, parts_pair c (level_at l i w) (side_at l i w) p)
-            (pair_lower (level_at l i v) (level_at l i w) (side_at l i v) (side_at l i w) (sided i h p v) (sided i h p w) q)
+            (pair_lower (level_at l i v) (level_at l i w) (side_at l i v) (side_at l i w) (sided i h p v)
+                (sided i h p w) q)
         go false p =
             let c = constructor_at l i in
             rw (parts_single c (level_at l i v) (side_at l i v) p, parts_single c (level_at l i w) (side_at l i w) p)

@@ -82,7 +82,8 @@ sheet_among log marks room =
 abbrev pub record_refusals : List ℕ
 record_refusals = 2 ∷ 3 ∷ 4 ∷ 5 ∷ 6 ∷ 7 ∷ []
 
-figures_among : (class : Class) (r : ReadAnswer) (bs : List ℕ) → Among (0 ∷ record_refusals) (figures_refusal class r bs)
+figures_among : (class : Class) (r : ReadAnswer) (bs : List ℕ)
+    → Among (0 ∷ record_refusals) (figures_refusal class r bs)
 unfolding figures_refusal naming_refusal any_of
 figures_among Unknown r bs = refl
 figures_among PreferenceRecord r bs = preference_among record_refusals refl refl refl r.list _ _
@@ -115,7 +116,8 @@ records_among s =
 
 -- where the end gives one of a list that has a record's numbers
 pub read_in : (ns : List ℕ) → within (0 ∷ record_refusals) (0 ∷ ns) ≡ true → (s : List ℕ) (room : ℕ)
-    → ((records s).refusal ≡ 0 → Among (0 ∷ ns) (end_refusal (records s) room)) → Among (0 ∷ ns) (read_of s room).refusal
+    → ((records s).refusal ≡ 0 → Among (0 ∷ ns) (end_refusal (records s) room))
+        → Among (0 ∷ ns) (read_of s room).refusal
 unfolding read_of finish
 read_in ns w s room h = go (eqb (records s).refusal 0) refl
   where

@@ -44,7 +44,8 @@ flat_lattice_among s marks budget =
     then_among ns _ _ (wider (0 ∷ read_refusals) (0 ∷ ns) (read_of s 8192).refusal refl (read_among s 8192))
     (wider (0 ∷ lattice_refusals) (0 ∷ ns) n refl (lattice_among (list_in s) (log_in s) marks 32768 budget))
 
-pub flat_window_among : (s : List ℕ) (marks w : ℕ) → Among (0 ∷ flat_window_refusals) (flat_window_call s marks w).refusal
+pub flat_window_among : (s : List ℕ) (marks w : ℕ)
+    → Among (0 ∷ flat_window_refusals) (flat_window_call s marks w).refusal
 unfolding within any_of
 flat_window_among s marks w =
     let ns = flat_window_refusals in
@@ -127,7 +128,8 @@ program_among s = go (eqb (read_of s 8192).refusal 0) refl
         let long = values_long s 8192 z in
         let fits = values_fit s 8192 z in
         rw (then_next (read_of s 8192).refusal either z)
-        (either_program (list_in s) (log_in s) (accepted_rows (log_in s).values (read_of s 8192).rows long (omega arith))
+        (either_program (list_in s) (log_in s)
+            (accepted_rows (log_in s).values (read_of s 8192).rows long (omega arith))
         (omega arith))
     go false e =
         rw (then_first (read_of s 8192).refusal either (eqb-false (read_of s 8192).refusal 0 e)) (read_program s)

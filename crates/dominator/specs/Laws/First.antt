@@ -48,7 +48,8 @@ module _ (p : ℕ → Bool) (xs : List ℕ) (i : ℕ) where
 
 -- ---- a search in the list of the numbers that pass is a search that counts up
 
-first_append : (p : ℕ → Bool) (xs ys : List ℕ) (none : ℕ) → first_of p (xs ++ ys) none ≡ first_of p xs (first_of p ys none)
+first_append : (p : ℕ → Bool) (xs ys : List ℕ) (none : ℕ)
+    → first_of p (xs ++ ys) none ≡ first_of p xs (first_of p ys none)
 unfolding first_of
 first_append p [] ys none = refl
 first_append p (x ∷ xs) ys none = ap (cond (p x) x) (first_append p xs ys none)
@@ -120,7 +121,8 @@ module _ (l : PreferenceList) (log : Log) (row : ℕ) (a : RowAsked l log row) w
         any_agree (λ q. beats (table_of l log.values) q s) (competes log) (λ q. row_dominates l log q s)
             (row_count log.values) (λ q b. table_beats q s b h),
       )
-      (regroup (competes log s) (row_dominates l log s row) (not (any_of (λ q. row_dominates l log q s) (competing log))))
+      (regroup (competes log s) (row_dominates l log s row)
+          (not (any_of (λ q. row_dominates l log q s) (competing log))))
 
   pub first_in_table : first_of (best_beats (table_of l log.values) (competing log) row) (competing log)
       (row_count log.values) ≡ first_dominator l log row

@@ -19,7 +19,8 @@ module _ (weights table : List ℕ) (at sum k : ℕ) (e : sum ≡ weighed weight
   few h l = omega (arith, more, weighed_grows weights table at (k + 1) (length weights) (omega arith))
 
 -- the sum so far and one level more
-small : (c : goal.After-shared_slice_known-in-loop-k-1) → c.loop-k.sum + get_or c.args.table.now (c.args.at + c.loop-k.k) 0 * get_or c.args.weights.now c.loop-k.k 0 < 32768
+small : (c : goal.After-shared_slice_known-in-loop-k-1)
+    → c.loop-k.sum + get_or c.args.table.now (c.args.at + c.loop-k.k) 0 * get_or c.args.weights.now c.loop-k.k 0 < 32768
 small c =
     few c.args.weights.now c.args.table.now c.args.at c.loop-k.sum c.loop-k.k c.loop-k.invariant.1 c.loop-k-test.true
     c.requires.1

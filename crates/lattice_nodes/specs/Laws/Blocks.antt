@@ -138,7 +138,8 @@ pub stage_inside : (w : ℕ) (b : List ℕ) (d k : ℕ) → d ≤ k → All (λ 
 unfolding stage_edges joined
 stage_inside w b zero k h = tt
 stage_inside w b (suc d) k h =
-    all_append (λ t. t < w + k) (stage_edges w b d) _ (stage_inside w b d k (le_of_lt h)) (at_node (eqb (get_or b d 0) 0))
+    all_append (λ t. t < w + k) (stage_edges w b d) _ (stage_inside w b d k (le_of_lt h))
+        (at_node (eqb (get_or b d 0) 0))
   where
     at_node : (t : Bool) → All (λ t. t < w + k) (cond t [] ((w + d) ∷ []))
     at_node true = tt
@@ -156,7 +157,8 @@ module _ (w : ℕ) (b : List ℕ) where
   stage_none zero h = refl
   stage_none (suc f) h = rw (stage_none f (λ i k. h i (le_step k)), h f (lt-suc_self f))
 
-  pub stage_more : (k : ℕ) → length (stage_edges w b (suc k)) ≡ length (stage_edges w b k) + cond (eqb (get_or b k 0) 0) 0 1
+  pub stage_more : (k : ℕ)
+      → length (stage_edges w b (suc k)) ≡ length (stage_edges w b k) + cond (eqb (get_or b k 0) 0) 0 1
   unfolding stage_edges joined
   stage_more k = length-append (stage_edges w b k) _ ∙ rw (go (eqb (get_or b k 0) 0))
     where
@@ -269,7 +271,8 @@ module _ (m : ℕ) (ms b : List ℕ) (size : length b ≡ node_count (m ∷ ms))
         inside : List ℕ
         inside = shifted x (cond there [] (edges_by w (weights_of ms) r r))
 
-        byte : get_or (updated entered_byte (steps (x + r)) b) (x + r) 0 ≡ get_or (updated entered_byte (own r) block) r 0
+        byte : get_or (updated entered_byte (steps (x + r)) b) (x + r) 0
+            ≡ get_or (updated entered_byte (own r) block) r 0
         byte =
             ap (λ (l : List ℕ). get_or l (x + r) 0)
             (same_updated (steps (x + r)) _ b a.same

@@ -116,7 +116,8 @@ above_cases (m ∷ ms) (l ∷ v) (a ∷ as') h k t =
     let p = both (leb l a) (none_above v as') t in
     above_cons (leb-true l a p.0) (above_cases ms v as' h.1 k.1 p.1)
   where
-    above_cons : l ≤ a → (v ≡ as') ⊎ (some_below v as' ≡ true) → (l ∷ v ≡ a ∷ as') ⊎ (ltb l a || some_below v as' ≡ true)
+    above_cons : l ≤ a → (v ≡ as') ⊎ (some_below v as' ≡ true)
+        → (l ∷ v ≡ a ∷ as') ⊎ (ltb l a || some_below v as' ≡ true)
     above_cons q (inr s) = inr (or_right (ltb l a) (some_below v as') s)
     above_cons q (inl e) = ⊎_elim (λ (p : l ≡ a). inl (cc)) (λ p. inr (rw (lt-ltb l a p))) (eq-or-lt_of_le q)
 
@@ -189,7 +190,8 @@ dominated_before (m ∷ ms) (l ∷ v) (b ∷ bs) h k t s =
 
 module _ (tops : List ℕ) (rows : List (List ℕ)) (valid : All (Within tops) rows) where
   -- a reached node has a row that is nowhere above it
-  reached_under : (z : ℕ) → reached tops rows z ≡ true → Witness (Within tops) (λ v. none_above v (levels_of tops z)) rows
+  reached_under : (z : ℕ) → reached tops rows z ≡ true
+      → Witness (Within tops) (λ v. none_above v (levels_of tops z)) rows
   unfolding reached held dominated_node dominates
   reached_under z t =
       ⊎_elim
@@ -217,8 +219,10 @@ module _ (tops : List ℕ) (rows : List (List ℕ)) (valid : All (Within tops) r
   unfolding reached held dominated_node dominates
   under_reached v z k mem h t =
       ⊎_elim
-      (λ e. rw (mem (λ s. eqb (node_id tops s) z) (eq-eqb (node_id tops v) z (ap (node_id tops) e ∙ id_levels tops z h))))
-      (λ s. or_right (held tops rows z) (dominated_node tops rows z) (mem (λ q. dominates q (levels_of tops z)) (rw t s)))
+      (λ e. rw (mem (λ s. eqb (node_id tops s) z)
+          (eq-eqb (node_id tops v) z (ap (node_id tops) e ∙ id_levels tops z h))))
+      (λ s. or_right (held tops rows z) (dominated_node tops rows z)
+          (mem (λ q. dominates q (levels_of tops z)) (rw t s)))
       (above_cases tops v (levels_of tops z) k (levels_of_within tops z h) t)
 
   -- an edge from a reached node leads to a dominated one

@@ -38,4 +38,5 @@ levels_of_within (m ∷ ms) x h = (
 pub id_levels : (ms : List ℕ) (x : ℕ) → x < node_count ms → node_id ms (levels_of ms x) ≡ x
 unfolding levels_of node_count node_id
 id_levels [] x h = omega arith
-id_levels (m ∷ ms) x h = rw (id_levels ms (x % node_count ms) (mod-lt x (nodes_some ms))) (div-add-mod' x (node_count ms))
+id_levels (m ∷ ms) x h = rw (id_levels ms (x % node_count ms) (mod-lt x (nodes_some ms)))
+    (div-add-mod' x (node_count ms))

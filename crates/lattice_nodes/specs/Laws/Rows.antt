@@ -136,7 +136,8 @@ module _ (w a : ℕ) (here : List ℕ) (fits : a + w ≤ length here) where
   low : f ≤ w
   low = omega (arith, first_low row, row_size)
 
-  byte : (r : ℕ) → r < w → get_or (drop a done) r 0 ≡ cond (among r along) (entered_byte (get_or row r 0)) (get_or row r 0)
+  byte : (r : ℕ) → r < w
+      → get_or (drop a done) r 0 ≡ cond (among r along) (entered_byte (get_or row r 0)) (get_or row r 0)
   byte r h = get_or-drop a done r 0 ∙ part_byte a w here (shifted a along) along fits r h (among_shifted a r along)
 
   zeros : (r : ℕ) → r < f → get_or (drop a done) r 0 ≡ 0

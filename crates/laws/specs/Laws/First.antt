@@ -40,7 +40,8 @@ any_none p n e = rw e (le-ltb n n (omega arith))
 pub refusal_on : (f : ℕ → ℕ) (k : ℕ) → first_at (is_refusal f) k ≡ k → f k ≡ 0 → first_at (is_refusal f) (k + 1) ≡ k + 1
 refusal_on f k e z = search_on (is_refusal f) k e (rw (eq-eqb (f k) 0 z))
 
-pub refusal_hit : (f : ℕ → ℕ) (k n : ℕ) → first_at (is_refusal f) k ≡ k → (f k ≡ 0 → ⊥) → k < n → first_refusal f n ≡ f k
+pub refusal_hit : (f : ℕ → ℕ) (k n : ℕ) → first_at (is_refusal f) k ≡ k → (f k ≡ 0 → ⊥) → k < n
+    → first_refusal f n ≡ f k
 unfolding first_refusal
 refusal_hit f k n e y l =
     let t : is_refusal f k ≡ true = rw (ne_eqb (f k) 0 y) in

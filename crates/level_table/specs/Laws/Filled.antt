@@ -52,7 +52,8 @@ module _ (f : ℕ → ℕ → ℕ) (n : ℕ) (t : List ℕ) where
   parts_out zero i b h = refl
   parts_out (suc k) i b h = part_out (f k) k b (with_parts f k n t) n i (λ e. h) ∙ parts_out k i (omega arith) h
 
-  parts_in : (k i : ℕ) → k ≤ 8 → i < length t → i % 8 < k → i / 8 < n → get_or (with_parts f k n t) i 0 ≡ f (i % 8) (i / 8)
+  parts_in : (k i : ℕ) → k ≤ 8 → i < length t → i % 8 < k → i / 8 < n
+      → get_or (with_parts f k n t) i 0 ≡ f (i % 8) (i / 8)
   unfolding with_parts
   parts_in zero i b l m h = absurd (not-suc-le-zero m)
   parts_in (suc k) i b l m h =
@@ -79,7 +80,8 @@ module _ (g : ℕ → ℕ) (t : List ℕ) where
   front_out : (m i : ℕ) → m ≤ i → get_or (front m) i 0 ≡ get_or t i 0
   front_out zero i h = unfold joined in refl
   front_out (suc m) i h =
-      rw (front_more m) (get_or-set_other (front m) m i (g m) 0 (λ e. absurd (omega arith)) ∙ front_out m i (omega arith))
+      rw (front_more m)
+          (get_or-set_other (front m) m i (g m) 0 (λ e. absurd (omega arith)) ∙ front_out m i (omega arith))
 
   front_in : (m i : ℕ) → i < length t → i < m → get_or (front m) i 0 ≡ g i
   front_in zero i l h = absurd (not-suc-le-zero h)

@@ -51,7 +51,8 @@ module _ (l : PreferenceList) (row : List ℤ) (k : ℕ) where
   unfolding rule_of
   rule_past e = rw e
 
-  rule_counted : leb (length (max_levels l)) k ≡ false → rule_of l k ≡ rule_for (preference_at l place) (part_of l k).half
+  rule_counted : leb (length (max_levels l)) k ≡ false
+      → rule_of l k ≡ rule_for (preference_at l place) (part_of l k).half
   unfolding rule_of
   rule_counted e = rw e
 

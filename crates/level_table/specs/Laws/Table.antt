@@ -90,7 +90,8 @@ module _ (l : PreferenceList) (log : List ℤ) (m n : ℕ) (e : n ≡ table_leng
 -- ---- its levels
 
 -- a row that its checks accept stands in the table with its level vector
-module _ (l : PreferenceList) (log : List ℤ) (e : list_refusal l ≡ 0) (r : ℕ) (f : row_refusal l (row_at log r) ≡ 0) where
+module _ (l : PreferenceList) (log : List ℤ) (e : list_refusal l ≡ 0) (r : ℕ)
+    (f : row_refusal l (row_at log r) ≡ 0) where
   level_small : (k : ℕ) → get_or (levels l (row_at log r)) k 0 < 65536
   level_small k =
       let w = levels_within l e (row_at log r) f in
@@ -117,7 +118,8 @@ module _ (l : PreferenceList) (log : List ℤ) (e : list_refusal l ≡ 0) (r : �
         ∙ ap (λ (p : ℕ). get_or (levels l (row_at log r)) p 0) (omega arith)
 
     -- the first eight parts, and those behind them
-    pub table_levels : row_count log ≤ 1024 → get_or (table_of l log) (8 * r + k) 0 ≡ get_or (levels l (row_at log r)) k 0
+    pub table_levels : row_count log ≤ 1024
+        → get_or (table_of l log) (8 * r + k) 0 ≡ get_or (levels l (row_at log r)) k 0
     unfolding table_of
     table_levels few = go (is_wide l) refl
       where

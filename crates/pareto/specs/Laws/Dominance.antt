@@ -91,7 +91,8 @@ none_sum (x ∷ a) (y ∷ b) l h =
     let i = leb-true x y p.0 in
     omega (arith, none_sum a b (omega arith) p.1)
 
-below_sum : (a b : List ℕ) → length a ≡ length b → none_above a b ≡ true → some_below a b ≡ true → level_sum a < level_sum b
+below_sum : (a b : List ℕ) → length a ≡ length b → none_above a b ≡ true → some_below a b ≡ true
+    → level_sum a < level_sum b
 unfolding none_above some_below level_sum
 below_sum [] bs l h k = false_true k
 below_sum (x ∷ a) [] l h k = false_true k

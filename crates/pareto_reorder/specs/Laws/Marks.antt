@@ -73,7 +73,8 @@ module _ (l : PreferenceList) (log log' : Log) (place origin : ℕ → ℕ) (h :
   placed : (r : ℕ) → r < row_count log.values → place r < row_count log'.values
   placed r b = omega (arith, h.place_below r b, h.same_count)
 
-  pub marks_same : (r : ℕ) → r < row_count log.values → get_or (marks_of l log') (place r) 0 ≡ get_or (marks_of l log) r 0
+  pub marks_same : (r : ℕ) → r < row_count log.values
+      → get_or (marks_of l log') (place r) 0 ≡ get_or (marks_of l log) r 0
   unfolding marks_of
   marks_same r b =
       singles_at (mark_at l log') (row_count log'.values) (place r) (placed r b) ∙ mark_same r b

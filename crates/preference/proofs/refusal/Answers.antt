@@ -37,4 +37,5 @@ unfolding list_refusal ◌gives◌ ◌then◌
 returns c =
     let b = c in
     let r = c.places_refusal-k in
-    rw (b.if-count.false, le-ltb _ _ b.if-namedcount-gt-MAX_NAMED_COUNT.false, ← r.ensures, ← c.all_named_refusal.ensures) (sym (then_next r.result _ c.if-k-ne0.false))
+    rw (b.if-count.false, le-ltb _ _ b.if-namedcount-gt-MAX_NAMED_COUNT.false, ← r.ensures, ← c.all_named_refusal.ensures)
+        (sym (then_next r.result _ c.if-k-ne0.false))

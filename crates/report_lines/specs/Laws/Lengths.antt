@@ -44,7 +44,8 @@ module _ (log : List ℤ) (f : Values log) where
   line_short r h = fields_short r (row_at log r) h (in_row r 0 (omega arith)) (in_row r 1 (omega arith))
 
   -- rows that a test picks
-  pub lines_short : (p : ℕ → Bool) (n : ℕ) → n ≤ 1024 → length (joined (λ r. cond (p r) (line_text log r) []) n) ≤ n * 29
+  pub lines_short : (p : ℕ → Bool) (n : ℕ) → n ≤ 1024
+      → length (joined (λ r. cond (p r) (line_text log r) []) n) ≤ n * 29
   lines_short p n h =
       joined_short (λ r. cond (p r) (line_text log r) []) 29 n (λ r l. picked r (p r) (line_short r (omega arith)))
     where

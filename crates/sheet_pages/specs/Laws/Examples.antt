@@ -15,7 +15,8 @@ empty_sheet =
     ++ letters "                                                                                          PAGE 1 OF 1\n"
 
 pub empty_sheet_lem : (sheet_of [] [] ≡ empty_sheet) × (length empty_sheet ≡ 204)
-unfolding sheet_of pages_of page_of page_rows page_count lines_of foot_line foot_text row_line field_text heading_line fields_of
+unfolding sheet_of pages_of page_of page_rows page_count lines_of foot_line foot_text row_line field_text heading_line
+    fields_of
     field_width padded marked_rows joined ceil_div hundredths signed sign decimal decimal_by
 empty_sheet_lem = (refl, refl)
 
@@ -38,7 +39,8 @@ harbour_sheet =
 
 -- with its marks: 612 bytes
 pub harbour_sheet_lem : (sheet_of harbour (1 ∷ 1 ∷ 1 ∷ 0 ∷ 1 ∷ []) ≡ harbour_sheet) × (length harbour_sheet ≡ 612)
-unfolding sheet_of pages_of page_of page_rows page_count lines_of foot_line foot_text row_line field_text heading_line fields_of
+unfolding sheet_of pages_of page_of page_rows page_count lines_of foot_line foot_text row_line field_text heading_line
+    fields_of
     field_width padded marked_rows joined ceil_div hundredths signed sign decimal decimal_by
 harbour_sheet_lem = (refl, refl)
 

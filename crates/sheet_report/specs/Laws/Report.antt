@@ -156,7 +156,8 @@ unfolding sheet_report
 text_for_all s room h = ap (λ (k : ℕ). text_of k (stream_sheet s)) (room_for_all s room h)
 
 -- the program's buffer is long enough
-refused_report : (s : List ℕ) → ((read_of s 8192).refusal ≡ 0 → ⊥) → sheet_report s ≡ refused_text (read_of s 8192).refusal
+refused_report : (s : List ℕ) → ((read_of s 8192).refusal ≡ 0 → ⊥)
+    → sheet_report s ≡ refused_text (read_of s 8192).refusal
 unfolding sheet_report text_of
 refused_report s h = rw (then_first (read_of s 8192).refusal _ h, ne_eqb (read_of s 8192).refusal 0 h)
 

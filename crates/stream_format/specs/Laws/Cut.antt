@@ -90,7 +90,8 @@ module _ (xs ys : List ℕ) (f : Front xs ys) where
   unfolding record_refusal
   refusal_front r =
       let body = body_short (kind_byte ys) in
-      let whole : leb (length xs) (body_of ys) ≡ false = lt-leb (length xs) (body_of ys) (omega (arith, f.first_long)) in
+      let whole : leb (length xs) (body_of ys)
+          ≡ false = lt-leb (length xs) (body_of ys) (omega (arith, f.first_long)) in
       let whole-too : leb (length ys) (body_of ys) ≡ false =
       lt-leb (length ys) (body_of ys) (omega (arith, f.second_long)) in
       rw (class_front, body_front, whole, whole-too, figures_front (class_of ys) r)
@@ -118,7 +119,9 @@ module _ (s : List ℕ) (n : ℕ) (late : 34367 ≤ n) (long : n ≤ length s) w
       record {
         first_long = omega (arith, length-drop place cut, cut_long);
         second_long = omega (arith, length-drop place s);
-        same = λ i k. get_or-drop place cut i 0 ∙ get_or-take n s (place + i) 0 (omega arith) ∙ sym (get_or-drop place s i 0);
+        same =
+            λ i k. get_or-drop place cut i 0 ∙ get_or-take n s (place + i) 0 (omega arith)
+                ∙ sym (get_or-drop place s i 0);
       }
 
   step_cut : (r : ReadAnswer) → Kept r → step cut r ≡ step s r

@@ -122,7 +122,8 @@ module _ (b : ℕ) (bs : List ℕ) (room : ℕ) where
   read_other : (t : Bool) → eqb r.refusal 0 ≡ t → Other (read_of (b ∷ bs) room).refusal
   unfolding read_of finish
   read_other true t =
-      rw t (end_other (end_refusal r room) _ r (end_refusal_lem (eqb-true r.refusal 0 t)) (records_begun (b ∷ bs)).other)
+      rw t (end_other (end_refusal r room) _ r (end_refusal_lem (eqb-true r.refusal 0 t))
+          (records_begun (b ∷ bs)).other)
   read_other false t = rw t (records_begun (b ∷ bs)).other
 
 pub one_empty : (s : List ℕ) (room : ℕ) → (read_of s room).refusal ≡ 1 → s ≡ []

@@ -24,7 +24,8 @@ all_one (suc n) zero x = refl
 all_one (suc n) (suc i) x = all_one n i x
 
 list_zero : ZeroPast zero_list
-list_zero = record { preferences_zero = λ i h. all_one 8 i zero_preference; named_zero = λ k h. all_one 64 k zero_named }
+list_zero =
+    record { preferences_zero = λ i h. all_one 8 i zero_preference; named_zero = λ k h. all_one 64 k zero_named }
 
 module _ (l : PreferenceList) (z : ZeroPast l) where
   preference_added : (p : Preference) → ZeroPast (add_preference l p)

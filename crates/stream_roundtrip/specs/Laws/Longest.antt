@@ -47,7 +47,8 @@ zeros : List ℤ
 zeros = replicate 8192 (pos 0)
 
 full_accepted : list_refusal full ≡ 0
-unfolding full between name list_refusal ◌gives◌ ◌then◌ first_refusal any_below first_at column_refusal preference_refusal
+unfolding full between name list_refusal ◌gives◌ ◌then◌ first_refusal any_below first_at column_refusal
+    preference_refusal
     named_refusal constructor_refusal layer_refusal sound max_level distance gap ceil_div
 full_accepted = refl
 
