@@ -30,7 +30,7 @@ table_length l log = cond (is_wide l) (max_values + columns * row_count log) (co
 abbrev pub with_planes : Bool → PreferenceList → List ℤ → List ℕ → List ℕ
 with_planes wide l log table =
     cond wide (sets (sets table 0 (plane_of l log 0)) max_values (plane_of l log columns))
-        (sets table 0 (plane_of l log 0))
+    (sets table 0 (plane_of l log 0))
 
 -- a lent table with them in it; one that is too short is left as it is
 unfoldable pub with_table : PreferenceList → List ℤ → List ℕ → List ℕ

@@ -39,13 +39,13 @@ each (c ∷ cs) e = (cc, each cs (cc))
 pub marked_cases : Each cases
 unfolding answers expected answer outcome ◌gives◌ ◌then◌ first_at any_below first_refusal gap ceil_div distance inside
     max_level sound constructor_refusal layer_refusal column_refusal preference_refusal named_refusal list_refusal
-        layer_of
+    layer_of
     level_at side_at side_by side_of parts_of tops_of max_at value_refusal level_refusal
     levels max_levels row_refusal joined any_of log_refusal none_above some_below
     dominates competes competing vector_at row_dominates is_best marks_of rows_refusal checked_refusal node_count
-        node_id
+    node_id
     levels_of held dominated_node reached edges_from edges crossed_at crossings bound_from bound lattice_tops
-        lattice_row
+    lattice_row
     lattice_rows lattice_refusal sizes_refusal window_refusal machine_of machines.keep machines.marked machines.older
     machines.younger machines.release machines.dominated machines.compares machines.tick machines.spares machines.remove
     machines.enter machines.set_aside machines.renew machines.finish machines.is_empty machines.place machines.judge

@@ -43,7 +43,7 @@ answer (marks_asked l log) = figures (marks_of l log)
 answer (machine_asked l log w) = figures (machine_of l log w).marks
 answer (lattice_asked l log) =
     figures (node_count (lattice_tops l) ∷ crossings (lattice_tops l) (lattice_rows l log) ∷ bound
-        (lattice_tops l) ∷ [])
+    (lattice_tops l) ∷ [])
 answer (window_called l log marks work w) = ends
     (outcome (window_refusal l log marks work w) (machine_of l log w).count)
 answer (lattice_called l log marks nodes budget) =

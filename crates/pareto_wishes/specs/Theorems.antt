@@ -90,7 +90,7 @@ module _ (l : PreferenceList) (e : list_refusal l ≡ 0) where
             let c = constructor_at l i in
             rw (parts_pair c (level_at l i v) (side_at l i v) p, parts_pair c (level_at l i w) (side_at l i w) p)
             (pair_lower (level_at l i v) (level_at l i w) (side_at l i v) (side_at l i w) (sided i h p v)
-                (sided i h p w) q)
+            (sided i h p w) q)
         go false p =
             let c = constructor_at l i in
             rw (parts_single c (level_at l i v) (side_at l i v) p, parts_single c (level_at l i w) (side_at l i w) p)

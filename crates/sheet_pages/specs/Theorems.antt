@@ -75,7 +75,7 @@ module _ (log : List ℤ) (marks : List ℕ) where
   marks_past marks' h = (
     ap (pages_of log)
         (joined_cong (λ r. cond (eqb (get_or marks r 0) 1) (r ∷ []) [])
-            (λ r. cond (eqb (get_or marks' r 0) 1) (r ∷ []) [])
+        (λ r. cond (eqb (get_or marks' r 0) 1) (r ∷ []) [])
         (row_count log) (λ r b. ap (λ (k : ℕ). cond (eqb k 1) (r ∷ []) []) (h r b))),
     ap (λ (t : _). t gives 14)
         (any_cong (λ r. ltb 1 (get_or marks r 0)) (λ r. ltb 1 (get_or marks' r 0)) (row_count log)

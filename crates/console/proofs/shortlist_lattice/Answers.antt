@@ -28,7 +28,7 @@ signed-requires c =
     let due : PreferenceList → Log → Call =
     λ l. λ log. counting (lattice_call l log (length marks) 32768 c.args.budget) in
     let unread : (c.read-read.result.refusal ≡ 0 → ⊥)
-      → Leaves (flat_lattice_call stream (length marks) c.args.budget) marks (refused c.read-read.result.refusal) marks =
+    → Leaves (flat_lattice_call stream (length marks) c.args.budget) marks (refused c.read-read.result.refusal) marks =
     unread_leaves stream c.read-read.result filled c.read-read.ensures.0 c.read-read.ensures.1 due marks in
     never_zero (flat_lattice_call stream (length marks) c.args.budget) marks _ marks (unread c.if-read-ne0.true)
 
@@ -43,7 +43,7 @@ returns-then-read-ne0 c =
     let due : PreferenceList → Log → Call =
     λ l. λ log. counting (lattice_call l log (length marks) 32768 c.args.budget) in
     let unread : (c.read-read.result.refusal ≡ 0 → ⊥)
-      → Leaves (flat_lattice_call stream (length marks) c.args.budget) marks (refused c.read-read.result.refusal) marks =
+    → Leaves (flat_lattice_call stream (length marks) c.args.budget) marks (refused c.read-read.result.refusal) marks =
     unread_leaves stream c.read-read.result filled c.read-read.ensures.0 c.read-read.ensures.1 due marks in
     leaves_told (flat_lattice_call stream (length marks) c.args.budget) marks _ _ marks
     (ap signed_outcome (num c.signed.result c.signed.type_inv) ∙ c.signed.ensures) (unread c.if-read-ne0.true)

@@ -28,7 +28,7 @@ signed-requires c =
     let due : PreferenceList → Log → Call =
     λ l. λ log. counting (window_call l log (length marks) 4096 c.args.w) in
     let unread : (c.read-found.result.refusal ≡ 0 → ⊥)
-      → Leaves (flat_window_call stream (length marks) c.args.w) marks (refused c.read-found.result.refusal) marks =
+    → Leaves (flat_window_call stream (length marks) c.args.w) marks (refused c.read-found.result.refusal) marks =
     unread_leaves stream c.read-found.result filled c.read-found.ensures.0 c.read-found.ensures.1 due marks in
     never_zero (flat_window_call stream (length marks) c.args.w) marks _ marks (unread c.if-found-ne0.true)
 
@@ -43,7 +43,7 @@ returns-then-found-ne0 c =
     let due : PreferenceList → Log → Call =
     λ l. λ log. counting (window_call l log (length marks) 4096 c.args.w) in
     let unread : (c.read-found.result.refusal ≡ 0 → ⊥)
-      → Leaves (flat_window_call stream (length marks) c.args.w) marks (refused c.read-found.result.refusal) marks =
+    → Leaves (flat_window_call stream (length marks) c.args.w) marks (refused c.read-found.result.refusal) marks =
     unread_leaves stream c.read-found.result filled c.read-found.ensures.0 c.read-found.ensures.1 due marks in
     leaves_told (flat_window_call stream (length marks) c.args.w) marks _ _ marks
     (ap signed_outcome (num c.signed.result c.signed.type_inv) ∙ c.signed.ensures) (unread c.if-found-ne0.true)

@@ -7,19 +7,29 @@ pub returns-in-Lowest : goal.returns-in-Lowest
 unfolding sound
 returns-in-Lowest c =
     rw (c.at_most.ensures, num c.in-Lowest.lo c.in-Lowest.known_told-1-own.given.0.1, num c.in-Lowest.hi c.in-Lowest.known_told-1-own.given.1.0.1)
-        (sym (ap sound c.in-Lowest.is))
+    (sym (ap sound c.in-Lowest.is))
 
 pub returns-in-Highest : goal.returns-in-Highest
 unfolding sound
 returns-in-Highest c =
-    rw (c.at_most-in-Highest.ensures, num c.in-Highest.lo c.in-Highest.known_told-in-Highest-1-own.given.0.1, num c.in-Highest.hi
-        c.in-Highest.known_told-in-Highest-1-own.given.1.0.1) (sym (ap sound c.in-Highest.is))
+    rw (
+      c.at_most-in-Highest.ensures,
+      num c.in-Highest.lo c.in-Highest.known_told-in-Highest-1-own.given.0.1,
+      num c.in-Highest.hi
+          c.in-Highest.known_told-in-Highest-1-own.given.1.0.1,
+    ) (sym (ap sound c.in-Highest.is))
 
 pub returns-in-Around : goal.returns-in-Around
 unfolding sound
 returns-in-Around c =
-    rw (c.at_most-in-Around.ensures, c.at_most-in-Around-2.ensures, num c.in-Around.lo c.in-Around.known_told-in-Around-1-own.given.0.1, num c.in-Around.hi
-        c.in-Around.known_told-in-Around-1-own.given.1.0.1, num c.in-Around.z c.in-Around.known_told-in-Around-1-own.given.1.1.1.0.1)
+    rw (
+      c.at_most-in-Around.ensures,
+      c.at_most-in-Around-2.ensures,
+      num c.in-Around.lo c.in-Around.known_told-in-Around-1-own.given.0.1,
+      num c.in-Around.hi
+          c.in-Around.known_told-in-Around-1-own.given.1.0.1,
+      num c.in-Around.z c.in-Around.known_told-in-Around-1-own.given.1.1.1.0.1,
+    )
     (sym (ap sound c.in-Around.is))
 
 pub returns-in-Between : goal.returns-in-Between

@@ -6,27 +6,30 @@ use Rattle.constructor.proofs.scale_of.Goals as goal
 pub returns-in-Lowest : goal.returns-in-Lowest
 returns-in-Lowest c =
     rw (num c.in-Lowest.lo c.in-Lowest.known_told-1-own.given.0.1, num c.in-Lowest.hi c.in-Lowest.known_told-1-own.given.1.0.1)
-        (sym (ap scale_of c.in-Lowest.is))
+    (sym (ap scale_of c.in-Lowest.is))
 
 pub returns-in-Highest : goal.returns-in-Highest
 returns-in-Highest c =
     rw (num c.in-Highest.lo c.in-Highest.known_told-in-Highest-1-own.given.0.1, num c.in-Highest.hi c.in-Highest.known_told-in-Highest-1-own.given.1.0.1)
-        (sym (ap scale_of c.in-Highest.is))
+    (sym (ap scale_of c.in-Highest.is))
 
 pub returns-in-Around : goal.returns-in-Around
 returns-in-Around c =
     rw (num c.in-Around.lo c.in-Around.known_told-in-Around-1-own.given.0.1, num c.in-Around.hi c.in-Around.known_told-in-Around-1-own.given.1.0.1)
-        (sym (ap scale_of c.in-Around.is))
+    (sym (ap scale_of c.in-Around.is))
 
 pub returns-in-Between : goal.returns-in-Between
 returns-in-Between c =
     rw (num c.in-Between.lo c.in-Between.known_told-in-Between-1-own.given.0.1, num c.in-Between.hi c.in-Between.known_told-in-Between-1-own.given.1.0.1)
-        (sym (ap scale_of c.in-Between.is))
+    (sym (ap scale_of c.in-Between.is))
 
 pub returns-in-Layered : goal.returns-in-Layered
 returns-in-Layered c = sym (ap scale_of c.in-Layered.is)
 
 pub returns-in-BetweenTrivial : goal.returns-in-BetweenTrivial
 returns-in-BetweenTrivial c =
-    rw (num c.in-BetweenTrivial.lo c.in-BetweenTrivial.known_told-in-BetweenTrivial-1-own.given.0.1, num c.in-BetweenTrivial.hi
-        c.in-BetweenTrivial.known_told-in-BetweenTrivial-1-own.given.1.0.1) (sym (ap scale_of c.in-BetweenTrivial.is))
+    rw (
+      num c.in-BetweenTrivial.lo c.in-BetweenTrivial.known_told-in-BetweenTrivial-1-own.given.0.1,
+      num c.in-BetweenTrivial.hi
+          c.in-BetweenTrivial.known_told-in-BetweenTrivial-1-own.given.1.0.1,
+    ) (sym (ap scale_of c.in-BetweenTrivial.is))

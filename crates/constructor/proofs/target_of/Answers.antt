@@ -17,13 +17,19 @@ returns-in-Around c =
 
 pub returns-in-Between : goal.returns-in-Between
 returns-in-Between c =
-    rw (num c.in-Between.low c.in-Between.known_told-in-Between-1-own.given.1.1.1.0.1, num c.in-Between.up
-        c.in-Between.known_told-in-Between-1-own.given.1.1.1.1.0.1) (sym (ap target_of c.in-Between.is))
+    rw (
+      num c.in-Between.low c.in-Between.known_told-in-Between-1-own.given.1.1.1.0.1,
+      num c.in-Between.up
+          c.in-Between.known_told-in-Between-1-own.given.1.1.1.1.0.1,
+    ) (sym (ap target_of c.in-Between.is))
 
 pub returns-in-Layered : goal.returns-in-Layered
 returns-in-Layered c = sym (ap target_of c.in-Layered.is)
 
 pub returns-in-BetweenTrivial : goal.returns-in-BetweenTrivial
 returns-in-BetweenTrivial c =
-    rw (num c.in-BetweenTrivial.low c.in-BetweenTrivial.known_told-in-BetweenTrivial-1-own.given.1.1.1.0.1, num c.in-BetweenTrivial.up
-        c.in-BetweenTrivial.known_told-in-BetweenTrivial-1-own.given.1.1.1.1.0.1) (sym (ap target_of c.in-BetweenTrivial.is))
+    rw (
+      num c.in-BetweenTrivial.low c.in-BetweenTrivial.known_told-in-BetweenTrivial-1-own.given.1.1.1.0.1,
+      num c.in-BetweenTrivial.up
+          c.in-BetweenTrivial.known_told-in-BetweenTrivial-1-own.given.1.1.1.1.0.1,
+    ) (sym (ap target_of c.in-BetweenTrivial.is))

@@ -117,7 +117,7 @@ records_among s =
 -- where the end gives one of a list that has a record's numbers
 pub read_in : (ns : List ℕ) → within (0 ∷ record_refusals) (0 ∷ ns) ≡ true → (s : List ℕ) (room : ℕ)
     → ((records s).refusal ≡ 0 → Among (0 ∷ ns) (end_refusal (records s) room))
-        → Among (0 ∷ ns) (read_of s room).refusal
+    → Among (0 ∷ ns) (read_of s room).refusal
 unfolding read_of finish
 read_in ns w s room h = go (eqb (records s).refusal 0) refl
   where

@@ -129,7 +129,7 @@ program_among s = go (eqb (read_of s 8192).refusal 0) refl
         let fits = values_fit s 8192 z in
         rw (then_next (read_of s 8192).refusal either z)
         (either_program (list_in s) (log_in s)
-            (accepted_rows (log_in s).values (read_of s 8192).rows long (omega arith))
+        (accepted_rows (log_in s).values (read_of s 8192).rows long (omega arith))
         (omega arith))
     go false e =
         rw (then_first (read_of s 8192).refusal either (eqb-false (read_of s 8192).refusal 0 e)) (read_program s)

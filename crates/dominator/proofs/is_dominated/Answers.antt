@@ -24,7 +24,7 @@ loop-i-preserved c =
     let l = c.loop-i in
     let a = c.args in
     any_on (λ q. beats a.table.now q a.s) a.rows.now l.i (omega arith) (ne_eqb _ 1 (λ z. c.if-compare-eq-FIRST_DOMINATES.false (c.compare.ensures ∙ z)))
-        ∙ l.invariant
+    ∙ l.invariant
 
 pub returns : goal.returns
 returns c =

@@ -122,7 +122,7 @@ module _ (l : PreferenceList) (log : Log) (row : ℕ) (a : RowAsked l log row) w
             (row_count log.values) (λ q b. table_beats q s b h),
       )
       (regroup (competes log s) (row_dominates l log s row)
-          (not (any_of (λ q. row_dominates l log q s) (competing log))))
+      (not (any_of (λ q. row_dominates l log q s) (competing log))))
 
   pub first_in_table : first_of (best_beats (table_of l log.values) (competing log) row) (competing log)
       (row_count log.values) ≡ first_dominator l log row

@@ -31,7 +31,7 @@ returns-then-k-ne0 c =
 pub engine-requires : goal.engine-requires
 engine-requires c =
     sym (refusal_is c.args.list (log_of c.args.log.now) (length c.args.marks.now) _ _ c.marks_refusal-short.ensures c.checked_refusal-k.ensures)
-        ∙ c.if-k-ne0.false
+    ∙ c.if-k-ne0.false
 
 pub returns : goal.returns
 returns c = c.engine.ensures

@@ -76,4 +76,4 @@ same_updated xs ys b same =
     (λ y k.
     let h : y < length b = omega (arith, k, length_updated entered_byte xs b) in
     get_or_updated entered_byte entered_once xs b y h
-        ∙ rw (same y) (sym (get_or_updated entered_byte entered_once ys b y h)))
+    ∙ rw (same y) (sym (get_or_updated entered_byte entered_once ys b y h)))

@@ -139,7 +139,7 @@ unfolding stage_edges joined
 stage_inside w b zero k h = tt
 stage_inside w b (suc d) k h =
     all_append (λ t. t < w + k) (stage_edges w b d) _ (stage_inside w b d k (le_of_lt h))
-        (at_node (eqb (get_or b d 0) 0))
+    (at_node (eqb (get_or b d 0) 0))
   where
     at_node : (t : Bool) → All (λ t. t < w + k) (cond t [] ((w + d) ∷ []))
     at_node true = tt

@@ -90,7 +90,7 @@ blocks m (suc q) ms h =
 -- all blocks: the last has no edge of the first part
 whole : (m : ℕ) (ms : List ℕ)
     → sum_below (node_count (m ∷ ms)) (degree (m ∷ ms))
-        ≡ node_count ms * m + (m + 1) * sum_below (node_count ms) (degree ms)
+    ≡ node_count ms * m + (m + 1) * sum_below (node_count ms) (degree ms)
 unfolding node_count
 whole m ms =
     let w = node_count ms in

@@ -220,9 +220,9 @@ module _ (tops : List ℕ) (rows : List (List ℕ)) (valid : All (Within tops) r
   under_reached v z k mem h t =
       ⊎_elim
       (λ e. rw (mem (λ s. eqb (node_id tops s) z)
-          (eq-eqb (node_id tops v) z (ap (node_id tops) e ∙ id_levels tops z h))))
+      (eq-eqb (node_id tops v) z (ap (node_id tops) e ∙ id_levels tops z h))))
       (λ s. or_right (held tops rows z) (dominated_node tops rows z)
-          (mem (λ q. dominates q (levels_of tops z)) (rw t s)))
+      (mem (λ q. dominates q (levels_of tops z)) (rw t s)))
       (above_cases tops v (levels_of tops z) k (levels_of_within tops z h) t)
 
   -- an edge from a reached node leads to a dominated one

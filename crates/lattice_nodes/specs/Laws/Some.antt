@@ -78,7 +78,7 @@ module _ (y : ℕ) (c : Bool) (a : ℕ) (l : List ℕ) where
       go : (d : Bool) → among y (cond d (a ∷ []) [] ++ l) ≡ true → ((d ≡ true) × (a ≡ y)) ⊎ (among y l ≡ true)
       go true s =
           ⊎_elim (λ e. inl (refl, eqb-true a y e)) (λ e. inr e)
-              (either (eqb a y) (among y l) (unfold among any_of in s))
+          (either (eqb a y) (among y l) (unfold among any_of in s))
       go false s = inr s
 
   pub among_head : c ≡ true → a ≡ y → among y (cond c (a ∷ []) [] ++ l) ≡ true

@@ -58,7 +58,7 @@ weight_at (m ∷ ms) (suc i) h = weight_at ms i (le_of_suc-le-suc h)
 -- the number of a vector's node, a level more
 pub id_more : (ms v : List ℕ) (k : ℕ) → Within ms v → k < length ms
     → node_id (drop k ms) (drop k v)
-        ≡ get_or v k 0 * get_or (weights_of ms) k 0 + node_id (drop (suc k) ms) (drop (suc k) v)
+    ≡ get_or v k 0 * get_or (weights_of ms) k 0 + node_id (drop (suc k) ms) (drop (suc k) v)
 unfolding node_id weights_of
 id_more [] v k h i = absurd (not-suc-le-zero i)
 id_more (m ∷ ms) [] k h i = absurd h
@@ -102,7 +102,7 @@ module _ (f : ℕ → ℕ) where
     get_or_updated [] b y h = refl
     get_or_updated (t ∷ ts) b y h =
         step (ℕ_discrete t y)
-            (get_or_updated ts (set b t (f (get_or b t 0))) y (rw (length-set b t (f (get_or b t 0))) h))
+        (get_or_updated ts (set b t (f (get_or b t 0))) y (rw (length-set b t (f (get_or b t 0))) h))
       where
         b' : List ℕ
         b' = set b t (f (get_or b t 0))
@@ -111,7 +111,7 @@ module _ (f : ℕ → ℕ) where
             → get_or (updated f ts b') y 0 ≡ cond (eqb t y || among y ts) (f (get_or b y 0)) (get_or b y 0)
         step (yes e) ih =
             let cell : get_or b' y 0
-                ≡ f (get_or b y 0) = rw (← e) (get_or-set_same b t (f (get_or b t 0)) 0 (rw (← e) at h)) in
+            ≡ f (get_or b y 0) = rw (← e) (get_or-set_same b t (f (get_or b t 0)) 0 (rw (← e) at h)) in
             rw (eq-eqb t y e) (ih ∙ rw cell (kept (among y ts) (get_or b y 0)))
         step (no n) ih = rw (ne_eqb t y n) (ih ∙ rw (get_or-set_other b t y (f (get_or b t 0)) 0 (λ e. n (sym e))))
 

@@ -13,7 +13,7 @@ invariant-loop-r l =
     × (l.n ≡ length l.log / 8)
     × (length l.table ≡ length l.initial.table)
     × ((list : PreferenceList) → Ruled list l.k l.column l.low l.up l.step l.pair l.half
-        → l.table ≡ with_part (part_at list l.log l.k) l.into l.r l.initial.table)
+    → l.table ≡ with_part (part_at list l.log l.k) l.into l.r l.initial.table)
 
 abbrev pub decreases-loop-r : goal.decreases-loop-r
 decreases-loop-r l = l.n - l.r

@@ -15,7 +15,7 @@ returns c =
     let a = c.args in
     c.fill_named.ensures
     ∙ with_part_cong
-        (row_layer c.names_of-names.result.values c.names_of-names.result.layers c.names_of-names.result.count a.others a.log.now c.rule_of-rule.result.column)
+    (row_layer c.names_of-names.result.values c.names_of-names.result.layers c.names_of-names.result.count a.others a.log.now c.rule_of-rule.result.column)
     (part_at a.list a.log.now a.k) a.into a.table.now
     (length a.log.now / 8)
     (λ r.

@@ -12,4 +12,4 @@ pub fill_layers-requires : goal.fill_layers-requires
 fill_layers-requires c =
     let a = c.args in
     let told = ap (λ (r : Rule). r.layering) (sym c.rule_of-rule.ensures)
-        ∙ c.in-Layers.is in record { layered = record { level = λ row. rule_layers a.list row a.k _ _ told }; room = search rules }
+    ∙ c.in-Layers.is in record { layered = record { level = λ row. rule_layers a.list row a.k _ _ told }; room = search rules }

@@ -81,7 +81,7 @@ module _ (g : ℕ → ℕ) (t : List ℕ) where
   front_out zero i h = unfold joined in refl
   front_out (suc m) i h =
       rw (front_more m)
-          (get_or-set_other (front m) m i (g m) 0 (λ e. absurd (omega arith)) ∙ front_out m i (omega arith))
+      (get_or-set_other (front m) m i (g m) 0 (λ e. absurd (omega arith)) ∙ front_out m i (omega arith))
 
   front_in : (m i : ℕ) → i < length t → i < m → get_or (front m) i 0 ≡ g i
   front_in zero i l h = absurd (not-suc-le-zero h)

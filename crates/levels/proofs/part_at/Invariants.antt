@@ -16,7 +16,7 @@ more list k i = ltb k (length (joined (max_parts list) (suc i)))
 abbrev pub invariant-loop-i : goal.invariant-loop-i
 invariant-loop-i l =
     (l.i ≤ l.count) × (l.count ≤ 8) × (l.before ≤ 2 * l.i) × (l.before ≤ l.k) × (l.before ≡ length (joined (max_parts l.list) l.i))
-        × (first_at (more l.list l.k) l.i ≡ l.i)
+    × (first_at (more l.list l.k) l.i ≡ l.i)
 
 abbrev pub decreases-loop-i : goal.decreases-loop-i
 decreases-loop-i l = l.count - l.i

@@ -13,7 +13,7 @@ pub returns-then-of_log-ne0 : goal.returns-then-of_log-ne0
 unfolding checked_refusal
 returns-then-of_log-ne0 c =
     rw (← c.refusal-of_list.ensures, then_next c.refusal-of_list.result _ c.if-of_list-ne0.false, ← c.refusal-of_log.ensures)
-        (sym (then_first c.refusal-of_log.result _ c.if-of_log-ne0.true))
+    (sym (then_first c.refusal-of_log.result _ c.if-of_log-ne0.true))
 
 pub returns-then-more-ne0 : goal.returns-then-more-ne0
 unfolding checked_refusal

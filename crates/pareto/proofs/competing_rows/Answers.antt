@@ -23,11 +23,11 @@ loop-r-preserved c =
     let e = sym c.row_competes.ensures in (
       omega arith,
       elim c.if-row_competes.branch [
-        then-row_competes w ↦
-          rw (w.rows-is ∙ w.store_row.ensures, w.found-is)
-          (listed_one p a.rows.now l.r l.found l.rows l.invariant.1 (e ∙ w.if-row_competes.true))
-      | else-row_competes w ↦
-          rw (w.rows-is, w.found-is) (listed_other p a.rows.now l.r l.found l.rows l.invariant.1 (e ∙ w.if-row_competes.false))
+        | then-row_competes w ↦
+            rw (w.rows-is ∙ w.store_row.ensures, w.found-is)
+            (listed_one p a.rows.now l.r l.found l.rows l.invariant.1 (e ∙ w.if-row_competes.true))
+        | else-row_competes w ↦
+            rw (w.rows-is, w.found-is) (listed_other p a.rows.now l.r l.found l.rows l.invariant.1 (e ∙ w.if-row_competes.false))
       ],
     )
 

@@ -25,7 +25,7 @@ module _ (l : PreferenceList) (log : Log) where
   unfolding row_dominates
   row_transitive q s r =
       dominates_transitive (vector_at l log q) (vector_at l log s) (vector_at l log r) (same_length q s)
-          (same_length s r)
+      (same_length s r)
 
   row_sum : (s r : ℕ) → row_dominates l log s r ≡ true → level_sum (vector_at l log s) < level_sum (vector_at l log r)
   unfolding row_dominates

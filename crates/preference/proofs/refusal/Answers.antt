@@ -38,4 +38,4 @@ returns c =
     let b = c in
     let r = c.places_refusal-k in
     rw (b.if-count.false, le-ltb _ _ b.if-namedcount-gt-MAX_NAMED_COUNT.false, ← r.ensures, ← c.all_named_refusal.ensures)
-        (sym (then_next r.result _ c.if-k-ne0.false))
+    (sym (then_next r.result _ c.if-k-ne0.false))

@@ -27,8 +27,11 @@ returns-in-Best c =
     λ answer. λ e. leaves_told call zeros _ answer after (sym e) c.by_either.ensures in
     let head = prints_same (ap (λ (n : ℕ). head_text n c.in-Best.best) c.row_count-rows.ensures) c.put_head-at.ensures in
     let a = answers (accepted _)
-        (ap outcome_of c.in-Best.is) in record { prints = prints_same (listed_text call zeros after _ a)
-            (prints_then head c.put_lines.ensures); max_runs_bound = omega (arith, (accepted_leaves call zeros _ after a).0) }
+    (ap outcome_of c.in-Best.is) in record {
+      prints = prints_same (listed_text call zeros after _ a)
+          (prints_then head c.put_lines.ensures);
+      max_runs_bound = omega (arith, (accepted_leaves call zeros _ after a).0);
+    }
 
 pub returns-in-Refused : goal.returns-in-Refused
 returns-in-Refused c =
@@ -39,5 +42,8 @@ returns-in-Refused c =
     let answers : (answer : Outcome ℕ) → outcome_of c.by_either.result ≡ answer → Leaves call zeros answer after =
     λ answer. λ e. leaves_told call zeros _ answer after (sym e) c.by_either.ensures in
     let a = answers (refused _)
-        (ap outcome_of c.in-Refused.is) in record { prints = prints_same (refused_text_lem call zeros after _ a) c.put_refused.ensures; max_runs_bound = omega
-            (arith, (refused_leaves call zeros _ after a).0, c.in-Refused.known_told-in-Refused-1-own.given.0.1) }
+    (ap outcome_of c.in-Refused.is) in record {
+      prints = prints_same (refused_text_lem call zeros after _ a) c.put_refused.ensures;
+      max_runs_bound = omega
+          (arith, (refused_leaves call zeros _ after a).0, c.in-Refused.known_told-in-Refused-1-own.given.0.1);
+    }

@@ -35,4 +35,4 @@ returns c =
     let s = c.args.stream.now in
     let bytes : Bytes s = λ i. omega (arith, c.shared_slice_known-1.given i) in
     read_reports s c.read-read.result c.read-read.new.log c.read-read.ensures.0 c.read-read.ensures.1 bytes c.if-read-ne0.false
-        c.put_selected.ensures.max_runs_bound c.put_selected.ensures.prints
+    c.put_selected.ensures.max_runs_bound c.put_selected.ensures.prints

@@ -27,13 +27,13 @@ count_marked-requires c =
     lattice_few c.args.list (log_of c.args.log.now) (length c.args.marks.now) 32768 c.args.budget
     (accepted_leaves (lattice_call c.args.list (log_of c.args.log.now) (length c.args.marks.now) 32768 c.args.budget) c.args.marks.now _ c.run.new.marks
     (told _ c.args.marks.now c.run.new.marks _ _ c.in-Crossed.is
-        (own_nodes _ _ c.args.marks.now c.run.new.marks _ _ c.args.budget zeros c.run.ensures.leaves))).0
+    (own_nodes _ _ c.args.marks.now c.run.new.marks _ _ c.args.budget zeros c.run.ensures.leaves))).0
 
 pub returns-in-Crossed : goal.returns-in-Crossed
 returns-in-Crossed c =
     accepted_counts
-        (lattice_call c.args.list (log_of c.args.log.now) (length c.args.marks.now) 32768 c.args.budget) c.args.marks.now _ c.count_marked.result
-            c.run.new.marks
+    (lattice_call c.args.list (log_of c.args.log.now) (length c.args.marks.now) 32768 c.args.budget) c.args.marks.now _ c.count_marked.result
+    c.run.new.marks
     (told _ c.args.marks.now c.run.new.marks _ _ c.in-Crossed.is (own_nodes _ _ c.args.marks.now c.run.new.marks _ _ c.args.budget zeros c.run.ensures.leaves))
     c.count_marked.ensures
 

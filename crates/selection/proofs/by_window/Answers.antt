@@ -31,7 +31,7 @@ count_marked-requires c =
 pub returns-in-Compared : goal.returns-in-Compared
 returns-in-Compared c =
     accepted_counts
-        (window_call c.args.list (log_of c.args.log.now) (length c.args.marks.now) 4096 c.args.w) c.args.marks.now _ c.count_marked.result c.run.new.marks
+    (window_call c.args.list (log_of c.args.log.now) (length c.args.marks.now) 4096 c.args.w) c.args.marks.now _ c.count_marked.result c.run.new.marks
     (told _ c.args.marks.now c.run.new.marks _ _ c.in-Compared.is (own_work _ _ c.args.marks.now c.run.new.marks _ _ c.args.w zeros c.run.ensures.leaves))
     c.count_marked.ensures
 

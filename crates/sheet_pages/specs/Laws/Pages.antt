@@ -81,7 +81,7 @@ module _ (log : List ℤ) where
         let n = length (page_rows rows p) in
         let e : n + 2 ≡ 1 + n + 1 = omega arith in
         rw e (lined_then (heading_line ++ lines_of log (page_rows rows p))
-            (foot_line (p + 1) (page_count (length rows)))
+        (foot_line (p + 1) (page_count (length rows)))
         (1 + n) 1
         (lined_then heading_line (lines_of log (page_rows rows p)) 1 n heading_lined (lines_lined (page_rows rows p)))
         (foot_lined (p + 1) (page_count (length rows))))

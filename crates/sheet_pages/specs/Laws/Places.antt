@@ -92,7 +92,7 @@ module _ (log : List ℤ) where
           last = foot_line (p + 1) (page_count (length rows));
           is =
               append_assoc heading_line (lines_of log (page_rows rows p))
-                  (foot_line (p + 1) (page_count (length rows)));
+              (foot_line (p + 1) (page_count (length rows)));
           long = heading_lined.long;
         }
 
@@ -118,7 +118,7 @@ module _ (log : List ℤ) where
         (omega (arith, (count_enough (length rows)).all)) in
         let lines =
         within_then pages (page_of log rows p) (lines_of log (page_rows rows p))
-            (length (joined (page_of log rows) p)) 102
+        (length (joined (page_of log rows) p)) 102
         page (page_lines p) in
         let many : k < length (page_rows rows p) = row_on_page p k (omega arith) (omega arith) in
         let row =

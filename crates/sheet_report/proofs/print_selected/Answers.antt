@@ -23,9 +23,9 @@ returns-in-Best c =
     let after : List ℕ =
     c.by_either.new.marks in
     let answers : (answer : Outcome ℕ) → selection.outcome_of c.by_either.result ≡ answer
-      → Leaves (selection.either_call c.args.list (log_of c.args.log.now) (length zeros)) zeros answer after =
+    → Leaves (selection.either_call c.args.list (log_of c.args.log.now) (length zeros)) zeros answer after =
     λ answer. λ e. leaves_told (selection.either_call c.args.list (log_of c.args.log.now) (length zeros)) zeros _ answer after (sym e)
-      c.by_either.ensures in
+    c.by_either.ensures in
     selected_printed c.args.list (log_of c.args.log.now) zeros after c.args.out.now long
     _ (outcome_of c.print.result) _ (search rules) (answers (accepted _) (ap selection.outcome_of c.in-Best.is)) c.print.ensures
 
@@ -34,8 +34,8 @@ returns-in-Refused c =
     let after : List ℕ =
     c.by_either.new.marks in
     let answers : (answer : Outcome ℕ) → selection.outcome_of c.by_either.result ≡ answer
-      → Leaves (selection.either_call c.args.list (log_of c.args.log.now) (length zeros)) zeros answer after =
+    → Leaves (selection.either_call c.args.list (log_of c.args.log.now) (length zeros)) zeros answer after =
     λ answer. λ e. leaves_told (selection.either_call c.args.list (log_of c.args.log.now) (length zeros)) zeros _ answer after (sym e)
-      c.by_either.ensures in
+    c.by_either.ensures in
     selected_refused c.args.list (log_of c.args.log.now) zeros after c.args.out.now long
     _ (answers (refused _) (ap selection.outcome_of c.in-Refused.is))

@@ -18,7 +18,7 @@ returns-in-Printed c =
     let out : List ℕ =
     c.args.out.now in
     let answers : (answer : Outcome ℕ) → outcome_of c.print.result ≡ answer
-      → SheetLeft (stream_refusal stream (length out)) (stream_sheet stream) out answer c.print.new.out =
+    → SheetLeft (stream_refusal stream (length out)) (stream_sheet stream) out answer c.print.new.out =
     λ answer. λ e. left_told _ (stream_sheet stream) out _ answer _ (sym e) c.print.ensures in
     let e = printed_text stream out _ _ (answers (accepted _) (ap outcome_of c.in-Printed.is)) in
     record { puts = e.0; upper_bound = e.1 }
@@ -30,7 +30,7 @@ returns-in-Refused c =
     let out : List ℕ =
     c.args.out.now in
     let answers : (answer : Outcome ℕ) → outcome_of c.print.result ≡ answer
-      → SheetLeft (stream_refusal stream (length out)) (stream_sheet stream) out answer c.print.new.out =
+    → SheetLeft (stream_refusal stream (length out)) (stream_sheet stream) out answer c.print.new.out =
     λ answer. λ e. left_told _ (stream_sheet stream) out _ answer _ (sym e) c.print.ensures in
     let e =
     refused_printed stream out _ _ _ _ (omega (arith, c.in-Refused.known_told-in-Refused-1-own.given.0.1))

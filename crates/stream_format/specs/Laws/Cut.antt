@@ -91,7 +91,7 @@ module _ (xs ys : List ℕ) (f : Front xs ys) where
   refusal_front r =
       let body = body_short (kind_byte ys) in
       let whole : leb (length xs) (body_of ys)
-          ≡ false = lt-leb (length xs) (body_of ys) (omega (arith, f.first_long)) in
+      ≡ false = lt-leb (length xs) (body_of ys) (omega (arith, f.first_long)) in
       let whole-too : leb (length ys) (body_of ys) ≡ false =
       lt-leb (length ys) (body_of ys) (omega (arith, f.second_long)) in
       rw (class_front, body_front, whole, whole-too, figures_front (class_of ys) r)
@@ -121,7 +121,7 @@ module _ (s : List ℕ) (n : ℕ) (late : 34367 ≤ n) (long : n ≤ length s) w
         second_long = omega (arith, length-drop place s);
         same =
             λ i k. get_or-drop place cut i 0 ∙ get_or-take n s (place + i) 0 (omega arith)
-                ∙ sym (get_or-drop place s i 0);
+            ∙ sym (get_or-drop place s i 0);
       }
 
   step_cut : (r : ReadAnswer) → Kept r → step cut r ≡ step s r

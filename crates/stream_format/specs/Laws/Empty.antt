@@ -123,7 +123,7 @@ module _ (b : ℕ) (bs : List ℕ) (room : ℕ) where
   unfolding read_of finish
   read_other true t =
       rw t (end_other (end_refusal r room) _ r (end_refusal_lem (eqb-true r.refusal 0 t))
-          (records_begun (b ∷ bs)).other)
+      (records_begun (b ∷ bs)).other)
   read_other false t = rw t (records_begun (b ∷ bs)).other
 
 pub one_empty : (s : List ℕ) (room : ℕ) → (read_of s room).refusal ≡ 1 → s ≡ []

@@ -43,6 +43,6 @@ pub examples :
     × Refuses (density_record ++ 6 ∷ 0 ∷ 0 ∷ 0 ∷ 0 ∷ 0 ∷ []) 3 22
 unfolding read_of finish end_refusal records steps step take_record with_record record_refusal max_level kind_of kinds
     ends_layered out_of_place figures_refusal preference_refusal column_refusal constructor_of constructor_refusal sound
-        first_at
+    first_at
     any_below ◌gives◌ ◌then◌ distance gap ceil_div word_at int_at word_bytes
 examples = (refl, refl, refl, refl, refl, refl, refl, refl, refl)

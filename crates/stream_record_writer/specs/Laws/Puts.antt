@@ -18,7 +18,7 @@ puts_int v {out} {last} {at} f n e =
 
 pub puts_range : (lo hi : ℤ) (step : ℕ) {out last : List ℕ} {at next : ℕ} → mag lo < 2147483648 → mag hi < 2147483648
     → Puts out last at next
-        (int_bytes (to_z w32 (of_z w32 lo)) ++ int_bytes (to_z w32 (of_z w32 hi)) ++ word_bytes step)
+    (int_bytes (to_z w32 (of_z w32 lo)) ++ int_bytes (to_z w32 (of_z w32 hi)) ++ word_bytes step)
     → Puts out last at next (int_bytes lo ++ int_bytes hi ++ word_bytes step)
 puts_range lo hi step f g p = rw (num lo f, num hi g) at p
 

@@ -63,14 +63,14 @@ ints_back [] p rest f = refl
 ints_back (v ∷ vs) p rest f =
     let tail = ints_bytes vs ++ rest in
     let a : (int_bytes v ++ ints_bytes vs) ++ rest
-        ≡ int_bytes v ++ tail = append_assoc (int_bytes v) (ints_bytes vs) rest in
+    ≡ int_bytes v ++ tail = append_assoc (int_bytes v) (ints_bytes vs) rest in
     let q : p ++ (int_bytes v ++ tail) ≡ (p ++ int_bytes v) ++ tail = sym (append_assoc p (int_bytes v) tail) in
     let n : length p + 4 ≡ length (p ++ int_bytes v) = omega (arith, length-append p (int_bytes v), int_long v) in
     let h : int_at (p ++ (int_bytes v ++ tail)) (length p) ≡ v =
     int_seam p (int_bytes v ++ tail) ∙ int_of_bytes v tail (f 0) in
     let t : ints_at (length vs) (p ++ (int_bytes v ++ tail)) (length p + 4) ≡ vs =
     ap (λ (s : List ℕ). ints_at (length vs) s (length p + 4)) q
-        ∙ ap (ints_at (length vs) ((p ++ int_bytes v) ++ tail)) n
+    ∙ ap (ints_at (length vs) ((p ++ int_bytes v) ++ tail)) n
     ∙ ints_back vs (p ++ int_bytes v) rest (λ j. f (suc j)) in
     rw (a, h, t)
 

@@ -79,7 +79,7 @@ module _ (m : PreferenceList) (h : Sound m) where
     old_place i n =
         ap (preference_refusal (add_preference m p) i) (preference_old m p i n)
         ∙ preference_refusal_same m (add_preference m p) i (preference_at m i)
-            (λ j k. preference_old m p j (omega arith))
+        (λ j k. preference_old m p j (omega arith))
         ∙ h.each_place i n
 
     new_place : place_refusal (add_preference m p) m.count ≡ 0
@@ -261,7 +261,7 @@ module _ (s : List ℕ) (by : Bytes s) where
       append_assoc v w rest
       ∙ ap (λ (d : List ℕ). v ++ (w ++ values_from n d)) (sym (drop-drop (1 + body_of bs) r.place s)) in
       step_goes (λ (q : ReadAnswer). (steps n s q).refusal ≡ 0 → Kept s (v ++ values_from (suc n) bs) (steps n s q)) s r
-          g
+      g
       (λ none e. let a = accepts r bs none in
       kept_of s _ values
       (keep (v ++ w) (with_record r bs) refl (kept_record s v r by h a (class_of bs) refl a.known) e))

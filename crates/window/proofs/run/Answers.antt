@@ -14,9 +14,12 @@ returns-then-refusal-ne0 c =
     let a = c.args in
     let call = window_call a.list (log_of a.log.now) (length a.marks.now) (length a.work.now) a.w in
     let e = c.checked_refusal-refusal.ensures
-        ∙ ap (checked_refusal a.list (log_of a.log.now))
-            c.sizes_refusal.ensures in record { leaves = leaves_refused call a.marks.now c.checked_refusal-refusal.result
-                (sym e) c.if-refusal-ne0.true; work_left = λ _. refl }
+    ∙ ap (checked_refusal a.list (log_of a.log.now))
+    c.sizes_refusal.ensures in record {
+      leaves = leaves_refused call a.marks.now c.checked_refusal-refusal.result
+          (sym e) c.if-refusal-ne0.true;
+      work_left = λ _. refl;
+    }
 
 pub run_accepted-requires : goal.run_accepted-requires
 unfolding window_refusal
@@ -32,5 +35,8 @@ returns c =
     let call = window_call a.list (log_of a.log.now) (length a.marks.now) (length a.work.now) a.w in
     let e = c.checked_refusal-refusal.ensures ∙ ap (checked_refusal a.list (log_of a.log.now)) c.sizes_refusal.ensures in
     let z = sym e
-        ∙ c.if-refusal-ne0.false in record { leaves = leaves_accepted call a.marks.now c.run_accepted.result c.run_accepted.new.marks z c.run_accepted.ensures.0
-            c.run_accepted.ensures.1; work_left = λ h. absurd (h z) }
+    ∙ c.if-refusal-ne0.false in record {
+      leaves = leaves_accepted call a.marks.now c.run_accepted.result c.run_accepted.new.marks z c.run_accepted.ensures.0
+          c.run_accepted.ensures.1;
+      work_left = λ h. absurd (h z);
+    }

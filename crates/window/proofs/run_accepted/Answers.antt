@@ -29,13 +29,16 @@ slice_bounds-plane-end-then-length-le-MAX_VALUES c =
 pub slice_bounds-run_table-end : goal.slice_bounds-run_table-end
 slice_bounds-run_table-end c =
     sym (length-take-le _ _
-        (handed_fits c.args.list c.args.log.now 8192 c.table_length-length.result c.table_length-length.ensures c.if-length-le-MAX_VALUES.true _
-            c.fill_table.ensures))
+    (handed_fits c.args.list c.args.log.now 8192 c.table_length-length.result c.table_length-length.ensures c.if-length-le-MAX_VALUES.true _
+    c.fill_table.ensures))
 
 pub run_table-requires : goal.run_table-requires
 run_table-requires c =
-    record { runnable = c.requires; table_value = table_handed c.args.list c.args.log.now 8192 c.table_length-length.result c.table_length-length.ensures
-        c.if-length-le-MAX_VALUES.true _ c.fill_table.ensures }
+    record {
+      runnable = c.requires;
+      table_value = table_handed c.args.list c.args.log.now 8192 c.table_length-length.result c.table_length-length.ensures
+          c.if-length-le-MAX_VALUES.true _ c.fill_table.ensures;
+    }
 
 pub returns-then-length-le-MAX_VALUES : goal.returns-then-length-le-MAX_VALUES
 returns-then-length-le-MAX_VALUES c = c.run_table.ensures
@@ -49,18 +52,21 @@ slice_bounds-fill_table-end-2 c = sym (handed_long _ 16384 (fits c.args.list c.a
 pub slice_bounds-planes-end-2 : goal.slice_bounds-planes-end-2
 slice_bounds-planes-end-2 c =
     handed_fits c.args.list c.args.log.now 16384 c.table_length-length.result c.table_length-length.ensures
-        (fits c.args.list c.args.log.now _ c.requires.few c.table_length-length.ensures) _ c.fill_table-2.ensures
+    (fits c.args.list c.args.log.now _ c.requires.few c.table_length-length.ensures) _ c.fill_table-2.ensures
 
 pub slice_bounds-run_table-end-2 : goal.slice_bounds-run_table-end-2
 slice_bounds-run_table-end-2 c =
     sym (length-take-le _ _
-        (handed_fits c.args.list c.args.log.now 16384 c.table_length-length.result c.table_length-length.ensures
-            (fits c.args.list c.args.log.now _ c.requires.few c.table_length-length.ensures) _ c.fill_table-2.ensures))
+    (handed_fits c.args.list c.args.log.now 16384 c.table_length-length.result c.table_length-length.ensures
+    (fits c.args.list c.args.log.now _ c.requires.few c.table_length-length.ensures) _ c.fill_table-2.ensures))
 
 pub run_table-requires-2 : goal.run_table-requires-2
 run_table-requires-2 c =
-    record { runnable = c.requires; table_value = table_handed c.args.list c.args.log.now 16384 c.table_length-length.result c.table_length-length.ensures
-        (fits c.args.list c.args.log.now _ c.requires.few c.table_length-length.ensures) _ c.fill_table-2.ensures }
+    record {
+      runnable = c.requires;
+      table_value = table_handed c.args.list c.args.log.now 16384 c.table_length-length.result c.table_length-length.ensures
+          (fits c.args.list c.args.log.now _ c.requires.few c.table_length-length.ensures) _ c.fill_table-2.ensures;
+    }
 
 pub returns : goal.returns
 returns c = c.run_table-2.ensures

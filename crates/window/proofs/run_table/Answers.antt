@@ -32,13 +32,13 @@ marks_handed n marks h = length-take-le n marks h
 pub slice_bounds-rows-end : goal.slice_bounds-rows-end
 slice_bounds-rows-end c =
     rows_long (log_of c.args.log.now) _ c.competing_rows-count.new.rows c.requires.runnable.few c.competing_rows-count.auto.rows
-        c.competing_rows-count.ensures.0
+    c.competing_rows-count.ensures.0
 
 pub slice_bounds-run_rows-end : goal.slice_bounds-run_rows-end
 slice_bounds-run_rows-end c =
     sym (length-take-le _ c.competing_rows-count.new.rows
     (rows_long (log_of c.args.log.now) _ c.competing_rows-count.new.rows c.requires.runnable.few c.competing_rows-count.auto.rows
-        c.competing_rows-count.ensures.0))
+    c.competing_rows-count.ensures.0))
 
 pub slice_bounds-run_rows-end-3 : goal.slice_bounds-run_rows-end-3
 slice_bounds-run_rows-end-3 c = sym (marks_handed _ c.args.marks.now (omega (arith, c.row_count-n.ensures, c.requires.runnable.marked)))
@@ -46,7 +46,7 @@ slice_bounds-run_rows-end-3 c = sym (marks_handed _ c.args.marks.now (omega (ari
 pub run_rows-requires : goal.run_rows-requires
 run_rows-requires c =
     rw (rows_are
-        (log_of c.args.log.now) _ c.competing_rows-count.new.rows c.requires.runnable.few c.competing_rows-count.ensures.0 c.competing_rows-count.ensures.1)
+    (log_of c.args.log.now) _ c.competing_rows-count.new.rows c.requires.runnable.few c.competing_rows-count.ensures.0 c.competing_rows-count.ensures.1)
     (rows_wait c.args.list (log_of c.args.log.now) _ _ c.args.w c.requires.runnable)
 
 pub overflow_cast-result : goal.overflow_cast-result
@@ -54,7 +54,7 @@ overflow_cast-result c =
     let runs =
     filled_machine c.args.list (log_of c.args.log.now) _ _ c.args.w c.requires.runnable _ _ _ c.requires.table_value
     (rows_are (log_of c.args.log.now) _ c.competing_rows-count.new.rows c.requires.runnable.few c.competing_rows-count.ensures.0
-        c.competing_rows-count.ensures.1)
+    c.competing_rows-count.ensures.1)
     (marks_handed _ c.args.marks.now (omega (arith, c.row_count-n.ensures, c.requires.runnable.marked)) ∙ c.row_count-n.ensures) in
     omega (
       arith,
@@ -70,7 +70,7 @@ returns c =
     let runs =
     filled_machine c.args.list (log_of c.args.log.now) _ _ c.args.w c.requires.runnable _ _ _ c.requires.table_value
     (rows_are (log_of c.args.log.now) _ c.competing_rows-count.new.rows c.requires.runnable.few c.competing_rows-count.ensures.0
-        c.competing_rows-count.ensures.1)
+    c.competing_rows-count.ensures.1)
     (marks_handed _ c.args.marks.now (omega (arith, c.row_count-n.ensures, c.requires.runnable.marked)) ∙ c.row_count-n.ensures) in (
       r.0 ∙ ap (λ (st : State). st.count) runs,
       ap (λ (n : ℕ). c.run_rows.new.marks ++ drop n a.marks.now) c.row_count-n.ensures

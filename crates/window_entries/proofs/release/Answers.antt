@@ -38,17 +38,20 @@ loop-i-preserved c =
     let row = c.word-row.ensures in
     let timestamp = c.word-timestamp.ensures in
     let e = read_is (younger a.s) a.work.now a.occupied h l.invariant.0 r t row timestamp in
-    elim c.if-timestamp-s.branch [ then-timestamp-s w ↦
-    let o : ltb t a.s ≡ true = lt-ltb t a.s w.if-timestamp-s.true in rw (w.work-is, w.marks-is ∙ w.mark.ensures, w.m-is) (
-      skip_read (younger a.s) a.work.now a.occupied h l.invariant.0 r t row timestamp (ap not o),
-      length-set l.marks r 1 ∙ l.invariant.1,
-      sym (mark_read (older a.s) a.work.now a.occupied l.i l.marks h (record { row = r; timestamp = t }) e o) ∙ l.invariant.2,
-    ) | else-timestamp-s w ↦
-    let o : ltb t a.s ≡ false = le-ltb t a.s w.if-timestamp-s.false in rw (w.work-is ∙ w.put_entry.ensures, w.marks-is, w.m-is) (
-      keep_read (younger a.s) a.work.now a.occupied h l.invariant.0 r t row timestamp (ap not o) (omega arith),
-      l.invariant.1,
-      sym (leave_read (older a.s) a.work.now a.occupied l.i l.marks h (record { row = r; timestamp = t }) e o) ∙ l.invariant.2,
-    ) ]
+    elim c.if-timestamp-s.branch [
+      | then-timestamp-s w ↦
+          let o : ltb t a.s ≡ true = lt-ltb t a.s w.if-timestamp-s.true in rw (w.work-is, w.marks-is ∙ w.mark.ensures, w.m-is) (
+            skip_read (younger a.s) a.work.now a.occupied h l.invariant.0 r t row timestamp (ap not o),
+            length-set l.marks r 1 ∙ l.invariant.1,
+            sym (mark_read (older a.s) a.work.now a.occupied l.i l.marks h (record { row = r; timestamp = t }) e o) ∙ l.invariant.2,
+          )
+      | else-timestamp-s w ↦
+          let o : ltb t a.s ≡ false = le-ltb t a.s w.if-timestamp-s.false in rw (w.work-is ∙ w.put_entry.ensures, w.marks-is, w.m-is) (
+            keep_read (younger a.s) a.work.now a.occupied h l.invariant.0 r t row timestamp (ap not o) (omega arith),
+            l.invariant.1,
+            sym (leave_read (older a.s) a.work.now a.occupied l.i l.marks h (record { row = r; timestamp = t }) e o) ∙ l.invariant.2,
+          )
+    ]
 
 pub shape_of-work : goal.shape_of-work
 shape_of-work c = c.loop-i.invariant.0.long

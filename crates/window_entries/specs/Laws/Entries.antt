@@ -26,7 +26,7 @@ pub put_same : (l : List ℕ) (i r s : ℕ) → 2 * i + 1 < length l
 unfolding put_entry entry_at
 put_same l i r s h = ap₂ (λ (a b : ℕ). record { row = a; timestamp = b })
     (get_or-set_other (set l (2 * i) r) (2 * i + 1) (2 * i) s 0 (omega arith)
-        ∙ get_or-set_same l (2 * i) r 0 (omega arith))
+    ∙ get_or-set_same l (2 * i) r 0 (omega arith))
     (get_or-set_same (set l (2 * i) r) (2 * i + 1) s 0 (omega (arith, length-set l (2 * i) r)))
 
 pub put_other : (l : List ℕ) (i r s j : ℕ) → (j ≡ i → ⊥) → entry_at (put_entry l i r s) j ≡ entry_at l j

@@ -9,7 +9,7 @@ use Rattle.window_passes.proofs.one_pass.Given as goal
 abbrev pub invariant-loop-i : goal.invariant-loop-i
 invariant-loop-i l =
     (length l.flags ≡ length l.initial.flags)
-        × Passing (table_dominates l.table) l.w l.n l.initial.work l.initial.marks l.initial.standing l.work l.marks l.standing l.i
+    × Passing (table_dominates l.table) l.w l.n l.initial.work l.initial.marks l.initial.standing l.work l.marks l.standing l.i
 
 abbrev pub decreases-loop-i : goal.decreases-loop-i
 decreases-loop-i l = l.n - l.i
