@@ -21,15 +21,16 @@ test:
 # The library for C: target/archive holds libshortlist.a and shortlist.h.
 archive:
 	@mkdir -p target/archive
-	@bash scripts/prove staticlib console
+	@bash scripts/prove library console_c
+	@mv target/staticlib/libconsole_c.a target/staticlib/libconsole.a
 	@cp target/staticlib/libconsole.a target/archive/libshortlist.a
 	@cp include/shortlist.h target/archive/shortlist.h
 
 program:
-	@bash scripts/prove check shortlist
+	@bash scripts/prove program shortlist
 
 sheet_program:
-	@bash scripts/prove check sheet
+	@bash scripts/prove program sheet
 
 # Our calls beside careful C and Rust ones: tables, and target/bench/rows.svg. docs/BENCHMARKS.md explains them.
 # make bench BEFORE=path/to/libshortlist.a adds a column: ours divided by that archive. ONLY=text takes a few inputs.

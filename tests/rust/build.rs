@@ -9,7 +9,7 @@ fn main() {
     let archive = directory.join("libconsole.a");
     println!("cargo:rerun-if-changed={}", archive.display());
     if !archive.is_file() {
-        eprintln!("libconsole.a is missing in {}: run `rt staticlib console` first", directory.display());
+        eprintln!("libconsole.a is missing in {}: run `make archive` first", directory.display());
         std::process::exit(1);
     }
     println!("cargo:rustc-link-search=native={}", directory.display());

@@ -28,7 +28,7 @@ impl Program {
     fn path(&self) -> PathBuf {
         let built = PathBuf::from(env!("CARGO_MANIFEST_DIR")).join("../../target/bin").join(self.name);
         let path = std::env::var(format!("{}_PROGRAM", self.name.to_uppercase())).map_or(built, PathBuf::from);
-        assert!(path.is_file(), "the program {} is missing: run `rt check {}` first", path.display(), self.name);
+        assert!(path.is_file(), "the program {} is missing: run `make program sheet_program` first", path.display());
         path
     }
 
