@@ -1,15 +1,10 @@
-use borrow.Author.Rules.{rules}
 use native.Mathlib.Omega.{arith}
-use Prim.Native.Nat.{◌≤◌, ◌<◌, ◌-◌}
-use mathlib.Core.Path.{refl, sym, ap, ◌∙◌, ◌≡◌}
-use mathlib.Core.Bool.{Bool}
-use mathlib.Core.Logic.{⊎_elim}
-use lib.ListN.{length}
+use Prim.Native.Nat.{◌<◌}
+use mathlib.Core.Path.{refl, sym, ap, ◌∙◌}
 use borrow.Author.Tests.{eq-eqb, ne_eqb, not-true, not-false}
-use Rattle.window_machine.specs.Machine.{Entry}
-use Rattle.window_entries.specs.Entries.{entry_at, Flags}
+use Rattle.window_entries.specs.Entries.{entry_at}
 use Rattle.window_entries.specs.Laws.Entries.{length_put}
-use Rattle.window_entries.proofs.Packed.{Packed, pack_from, read_is, skip_read, keep_read, pack_filtered}
+use Rattle.window_entries.proofs.Packed.{pack_from, read_is, skip_read, keep_read, pack_filtered}
 use Rattle.window_entries.proofs.remove.Goals as goal
 use Rattle.window_entries.proofs.remove.Goals.{then-flags-i-ne-SECOND_DOMINATES, else-flags-i-ne-SECOND_DOMINATES}
 
@@ -27,29 +22,32 @@ loop-i-preserved c =
     let s = c.word-timestamp.result in
     let row = c.word-row.ensures in
     let timestamp = c.word-timestamp.ensures in
-    elim c.if-flags-i-ne-SECOND_DOMINATES.branch [ then-flags-i-ne-SECOND_DOMINATES w ↦
-    rw (w.work-is ∙ w.put_entry.ensures, w.m-is) (
-      omega arith,
-      omega arith,
-      omega arith,
-      length_put l.work l.m r s ∙ l.invariant.3,
-      λ p f.
-          let z = l.invariant.4 p f in
-          keep_read p a.work.now a.occupied h z r s row timestamp
-          (ap p (read_is p a.work.now a.occupied h z r s row timestamp)
-          ∙ not-false (p (entry_at a.work.now l.i)) (sym (f.told l.i l.invariant.0 h) ∙ ne_eqb _ 2 w.if-flags-i-ne-SECOND_DOMINATES.true)) (omega arith),
-    ) | else-flags-i-ne-SECOND_DOMINATES w ↦
-    rw (w.work-is, w.m-is) (
-      omega arith,
-      omega arith,
-      omega arith,
-      l.invariant.3,
-      λ p f.
-          let z = l.invariant.4 p f in
-          skip_read p a.work.now a.occupied h z r s row timestamp
-          (ap p (read_is p a.work.now a.occupied h z r s row timestamp)
-          ∙ not-true (p (entry_at a.work.now l.i)) (sym (f.told l.i l.invariant.0 h) ∙ eq-eqb _ 2 w.if-flags-i-ne-SECOND_DOMINATES.false)),
-    ) ]
+    elim c.if-flags-i-ne-SECOND_DOMINATES.branch [
+      | then-flags-i-ne-SECOND_DOMINATES w ↦
+          rw (w.work-is ∙ w.put_entry.ensures, w.m-is) (
+            omega arith,
+            omega arith,
+            omega arith,
+            length_put l.work l.m r s ∙ l.invariant.3,
+            λ p f.
+                let z = l.invariant.4 p f in
+                keep_read p a.work.now a.occupied h z r s row timestamp
+                (ap p (read_is p a.work.now a.occupied h z r s row timestamp)
+                ∙ not-false (p (entry_at a.work.now l.i)) (sym (f.told l.i l.invariant.0 h) ∙ ne_eqb _ 2 w.if-flags-i-ne-SECOND_DOMINATES.true)) (omega arith),
+          )
+      | else-flags-i-ne-SECOND_DOMINATES w ↦
+          rw (w.work-is, w.m-is) (
+            omega arith,
+            omega arith,
+            omega arith,
+            l.invariant.3,
+            λ p f.
+                let z = l.invariant.4 p f in
+                skip_read p a.work.now a.occupied h z r s row timestamp
+                (ap p (read_is p a.work.now a.occupied h z r s row timestamp)
+                ∙ not-true (p (entry_at a.work.now l.i)) (sym (f.told l.i l.invariant.0 h) ∙ eq-eqb _ 2 w.if-flags-i-ne-SECOND_DOMINATES.false)),
+          )
+    ]
 
 pub shape_of-work : goal.shape_of-work
 shape_of-work c = c.loop-i.invariant.3
