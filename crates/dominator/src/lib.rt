@@ -85,6 +85,7 @@ fn first_of_log(list: PreferenceList, log: &[i32], row: usize) -> usize
 }
 
 // Answers with a row of the shortlist that betters the asked one.
+#[tactic(auto, using(crate::specs::Laws::Answer::shortlisted))]
 pub fn of(list: PreferenceList, log: &[i32], row: u32) -> DominatorAnswer
     ensures { Answered list (log_of log.now) row result }
 {

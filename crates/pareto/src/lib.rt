@@ -196,6 +196,7 @@ pub fn plane_levels(table: &[u16], a: usize, b: usize) -> Lower
 }
 
 // The same of a table of two planes.
+#[tactic(auto, using(crate::proofs::Double::near_tells))]
 fn double_levels(table: &[u16], a: usize, b: usize) -> Lower
     requires { is_double table.now ≡ true }
     ensures { Looked (double_lower table.now) a b result }

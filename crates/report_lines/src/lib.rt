@@ -48,6 +48,7 @@ fn put_line(out: &mut [u8], at: usize, log: &[i32], r: usize) -> usize
     put_fields(out, at, r as u64, run_log::row(log, r))
 }
 
+#[tactic(auto, using(crate::proofs::Marked::marked_is))]
 fn put_line_if_marked(out: &mut [u8], at: usize, log: &[i32], marks: &[u8], r: usize) -> usize
     requires { r < row_count log.now }
     ensures { Prints out.old out.new at result

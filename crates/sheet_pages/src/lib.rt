@@ -99,6 +99,7 @@ fn put_pages(out: &mut [u8], log: &[i32], rows: &[usize]) -> usize
 // ---- the marked rows
 
 // Puts row r into the list where it is marked.
+#[tactic(auto, using(crate::proofs::Picked::row_picked, crate::proofs::Picked::row_left))]
 fn list_row(rows: &mut [usize], count: usize, marks: &[u8], r: usize) -> usize
     requires { count < length rows.old }
     ensures { Puts rows.old rows.new count result (picked marks.now r) }

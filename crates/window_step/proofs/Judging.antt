@@ -7,7 +7,7 @@ use mathlib.Core.List.{List, [], ◌∷◌, ◌++◌}
 use lib.ListN.{length}
 use borrow.Author.Tests.{lt-ltb, le-ltb}
 use Rattle.window_machine.specs.Laws.Ends.{compares_le}
-use Rattle.window_machine.specs.Machine.{Entry, dominated, compares, spares, tick, remove, enter, set_aside, place, judge, read}
+use Rattle.window_machine.specs.Machine.{Entry, dominated, compares, spares, tick, remove, enter, set_aside, place, judge}
 use Rattle.window_entries.specs.Entries.{entries, put_entry, Filtered}
 use Rattle.window_step.specs.Work.{state_of, Scanned, Ready, Judged}
 use Rattle.window_step.specs.declared.Standing.{Standing}

@@ -2,8 +2,8 @@
 use Prim.Native.Nat.{ℕ, ◌+◌, ◌-◌, ◌*◌, ◌≤◌, ◌<◌}
 use native.Mathlib.Omega.{arith}
 use native.Mathlib.Decide.{ℕ_discrete}
-use mathlib.Core.Path.{◌≡◌}
-use mathlib.Core.Bool.{Bool, true, false, not, ◌||◌, true≢false}
+use mathlib.Core.Path.{◌≡◌, refl}
+use mathlib.Core.Bool.{Bool, true, false, not, ◌||◌}
 use mathlib.Core.List.{List}
 use lib.Dec.{eqb}
 use lib.ListN.{get_or, set, length}
@@ -35,13 +35,19 @@ module _ (dom : ℕ → ℕ → Bool) (r : ℕ) (l : List ℕ) (n : ℕ) where
           compares_left = omega (arith, rw (entries_step l i n h, q) at z.compares_left);
         }
 
-    pub undropped_hit : i < n → dom (get_or l (2 * i) 0) r ≡ true → (true ≡ dominated dom r (entries l 0 n)) × (i + 1 ≡ compares dom r (entries l 0 n))
-    unfolding dominated compares any_of entry_at
-    undropped_hit h q = (rw (entries_step l i n h, q) at z.dominated_left, omega (arith, rw (entries_step l i n h, q) at z.compares_left))
-
     pub undropped_end : n ≤ i → (false ≡ dominated dom r (entries l 0 n)) × (n ≡ compares dom r (entries l 0 n))
     unfolding dominated compares any_of
     undropped_end h = (rw (entries_done l i n h) at z.dominated_left, omega (arith, z.within, rw (entries_done l i n h) at z.compares_left))
+
+-- the entry that dominates the row is the last that is compared
+module _ (t : List ℕ) (r : ℕ) (l : List ℕ) (i n : ℕ) (h : i < n) (q : compared t (get_or l (2 * i) 0) r ≡ first_dominates) where
+  pub hit_dominates : dominated (table_dominates t) r (entries l i (n - i)) ≡ true
+  unfolding dominated any_of entry_at
+  hit_dominates = rw (entries_step l i n h, hits t l r i (compared t (get_or l (2 * i) 0) r) refl q)
+
+  pub hit_last : compares (table_dominates t) r (entries l i (n - i)) ≡ 1
+  unfolding compares entry_at
+  hit_last = rw (entries_step l i n h, hits t l r i (compared t (get_or l (2 * i) 0) r) refl q)
 
 -- the flags from place s on, and one more
 pub told_more : (p : Entry → Bool) (l : List ℕ) (s i : ℕ) (f : List ℕ) (v : ℕ)
@@ -69,11 +75,6 @@ scanning_start z =
     record { undropped = z.undropped; behind = omega arith; next = z.next; front = z.spared; told = λ j a b. absurd (omega arith); none = λ _. z.spared }
 
 module _ {t : List ℕ} {r : ℕ} {l : List ℕ} {n from : ℕ} {f : List ℕ} {i v : ℕ} {d : Bool} (z : Scanning t r l n from f i v d) where
-  pub scanning_hit : i < n → v ≡ first_dominates → Scanned (table_dominates t) r l n f (record { dropped = true; from = from; compares = i + 1 })
-  scanning_hit h q =
-      let e = undropped_hit (table_dominates t) r l n z.undropped h (hits t l r i v (z.next h) q) in
-      record { dropped_is = e.0; count_is = e.1; few = omega (arith, z.behind); flags_are = λ x. absurd (true≢false x) }
-
   pub scanning_more : i < n → (v ≡ first_dominates → ⊥) → n ≤ length f → {v' : ℕ} → (i + 1 < n → v' ≡ compared t (get_or l (2 * (i + 1)) 0) r)
       → Scanning t r l n from (set f i v) (i + 1) v' (d || eqb v second_dominates)
   scanning_more h q room next = record {

@@ -84,6 +84,7 @@ fn passed_first(table: &[u16], work: &[u32], occupied: usize, row: u32) -> Front
 
 // Compares a row with the window's entries, the oldest that is left first, until one dominates it. Behind the entries
 // that are apart, each compare is kept as a flag for `remove`.
+#[tactic(auto, using(crate::proofs::Scanning::hit_dominates, crate::proofs::Scanning::hit_last))]
 fn scan(table: &[u16], work: &[u32], occupied: usize, row: u32, flags: &mut [u8]) -> Verdict
     requires { (occupied ≤ max_window) × (2 * occupied ≤ length work.now) × (occupied ≤ length flags.old) }
     ensures { Scanned (table_dominates table.now) row work.now occupied

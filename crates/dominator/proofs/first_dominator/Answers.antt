@@ -1,9 +1,6 @@
-use mathlib.Core.Path.{◌≡◌, refl, sym, ◌∙◌}
-use Prim.Native.Nat.{◌-◌}
+use mathlib.Core.Path.{refl, sym, ◌∙◌}
 use native.Mathlib.Omega.{arith}
-use lib.ListN.{length, drop}
-use borrow.Author.Rules.{rules}
-use Rattle.dominator.specs.First.{best_beats, first_of}
+use Rattle.dominator.specs.First.{best_beats}
 use Rattle.dominator.specs.Laws.First.{first_on, first_here, first_end}
 use Rattle.dominator.proofs.first_dominator.Goals as goal
 

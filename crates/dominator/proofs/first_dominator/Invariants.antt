@@ -1,10 +1,7 @@
-use mathlib.Core.Path.{◌≡◌, refl, sym, ◌∙◌}
+use mathlib.Core.Path.{◌≡◌}
 use Prim.Native.Nat.{◌-◌}
-use native.Mathlib.Omega.{arith}
 use lib.ListN.{length, drop}
-use borrow.Author.Rules.{rules}
 use Rattle.dominator.specs.First.{best_beats, first_of}
-use Rattle.dominator.specs.Laws.First.{first_on, first_here, first_end}
 use Rattle.dominator.proofs.first_dominator.Given as goal
 
 -- no row before place i is it

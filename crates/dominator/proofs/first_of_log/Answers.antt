@@ -1,14 +1,12 @@
 use mathlib.Core.Path.{◌≡◌, sym}
-use mathlib.Core.List.{List, ◌++◌}
+use mathlib.Core.List.{List}
 use Prim.Native.Nat.{ℕ, ◌≤◌}
 use native.Mathlib.Omega.{arith}
-use lib.ListN.{length, take, drop, replicate}
 use lib.Seq.{length-take-le}
-use borrow.Author.Rules.{rules}
 use Rattle.preference.specs.declared.PreferenceList.{PreferenceList}
 use lib.IntN.{ℤ}
 use Rattle.run_log.specs.Log.{row_count}
-use Rattle.level_table.specs.Table.{table_of, table_length}
+use Rattle.level_table.specs.Table.{table_length}
 use Rattle.level_table.specs.Laws.Table.{table_fits, handed_long, handed_fits, table_handed}
 use Rattle.dominator.proofs.first_of_log.Goals as goal
 

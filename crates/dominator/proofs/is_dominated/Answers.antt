@@ -1,10 +1,6 @@
-use mathlib.Core.Path.{◌≡◌, refl, sym, ◌∙◌}
-use Prim.Native.Nat.{◌-◌}
+use mathlib.Core.Path.{refl, sym, ◌∙◌}
 use native.Mathlib.Omega.{arith}
-use lib.ListN.{length, drop}
-use borrow.Author.Rules.{rules}
 use borrow.Author.Tests.{eq-eqb, ne_eqb}
-use Rattle.laws.specs.Lists.{any_of}
 use Rattle.dominator.specs.First.{beats}
 use Rattle.dominator.specs.Laws.First.{any_on, any_here, any_end}
 use Rattle.dominator.proofs.is_dominated.Goals as goal

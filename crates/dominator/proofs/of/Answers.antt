@@ -1,9 +1,6 @@
-use Rattle.run_log.specs.Log.{log_of, row_count}
-use Rattle.dominator.specs.Laws.Answer.{refused, no_row, accepted, shortlisted, beaten}
-use mathlib.Core.Path.{◌≡◌}
-use Prim.Native.Nat.{◌<◌}
+use Rattle.run_log.specs.Log.{log_of}
+use Rattle.dominator.specs.Laws.Answer.{refused, no_row, accepted, beaten}
 use native.Mathlib.Omega.{arith}
-use borrow.Author.Rules.{rules}
 use Rattle.dominator.proofs.of.Goals as goal
 
 pub returns-then-refusal-ne0 : goal.returns-then-refusal-ne0
@@ -23,23 +20,14 @@ first_of_log-first-requires c =
     accepted a.list (log_of a.log.now) a.row c.checked_refusal-refusal.result c.checked_refusal-refusal.ensures c.if-refusal-ne0.false
     (omega (arith, c.if-rows-asked.false, c.row_count-rows.ensures))
 
-pub returns-then-rows-first : goal.returns-then-rows-first
-returns-then-rows-first c =
-    let a = c.args in
-    shortlisted a.list (log_of a.log.now) a.row c.checked_refusal-refusal.result c.checked_refusal-refusal.ensures c.if-refusal-ne0.false
-    (omega (arith, c.if-rows-asked.false, c.row_count-rows.ensures)) c.first_of_log-first.result c.first_of_log-first.ensures
-    (omega (arith, c.if-rows-first.true, c.row_count-rows.ensures))
-
 pub overflow_cast-result : goal.overflow_cast-result
 overflow_cast-result c =
     let a = c.args in
-    let g = accepted a.list (log_of a.log.now) a.row c.checked_refusal-refusal.result c.checked_refusal-refusal.ensures c.if-refusal-ne0.false
-    (omega (arith, c.if-rows-asked.false, c.row_count-rows.ensures)) in
-    omega (arith, g.few, c.if-rows-first.false, c.row_count-rows.ensures)
+    let g = accepted a.list (log_of a.log.now) a.row c.checked_refusal-refusal.result c.checked_refusal-refusal.ensures c.if-refusal-ne0.false (omega (arith, c.if-rows-asked.false, c.row_count-rows.ensures)) in
+    omega (arith, g.few, c.row_count-rows.ensures)
 
 pub returns : goal.returns
 returns c =
     let a = c.args in
-    beaten a.list (log_of a.log.now) a.row c.checked_refusal-refusal.result c.checked_refusal-refusal.ensures c.if-refusal-ne0.false
-    (omega (arith, c.if-rows-asked.false, c.row_count-rows.ensures)) c.first_of_log-first.result c.first_of_log-first.ensures
-    (omega (arith, c.if-rows-first.false, c.row_count-rows.ensures))
+    beaten a.list (log_of a.log.now) a.row c.checked_refusal-refusal.result c.checked_refusal-refusal.ensures c.if-refusal-ne0.false (omega (arith, c.if-rows-asked.false, c.row_count-rows.ensures)) c.first_of_log-first.result c.first_of_log-first.ensures
+    (omega (arith, c.row_count-rows.ensures))

@@ -1,7 +1,6 @@
 use mathlib.Core.Path.{sym}
 use Rattle.laws.specs.Laws.Checks.{then_first, then_next}
 use Rattle.pareto.specs.Checked.{checked_refusal}
-use borrow.Author.Rules.{rules}
 use Rattle.pareto.proofs.checked_refusal.Goals as goal
 
 pub returns-then-of_list-ne0 : goal.returns-then-of_list-ne0

@@ -1,5 +1,4 @@
 use mathlib.Core.Path.{sym, ◌∙◌}
-use borrow.Author.Rules.{rules}
 use Rattle.pareto.specs.Laws.Planes.{compared_plane, compared_double}
 use Rattle.pareto.proofs.compare.Goals as goal
 

@@ -1,14 +1,7 @@
-use borrow.Author.Rules.{rules}
-use native.Mathlib.Omega.{arith}
-use Prim.Native.Nat.{◌≤◌, ◌-◌, ◌/◌}
-use mathlib.Core.Path.{◌≡◌, sym, ap, ◌∙◌}
-use mathlib.Core.Logic.{⊎_elim}
-use lib.ListN.{length}
-use lib.Seq.{length-sets}
-use Rattle.laws.specs.Lists.{passing}
+use Prim.Native.Nat.{◌≤◌, ◌-◌}
 use Rattle.run_log.specs.Log.{log_of}
-use Rattle.pareto.specs.Best.{competes, competing}
-use Rattle.pareto.specs.Laws.Competing.{Listed, listed_none, listed_one, listed_other}
+use Rattle.pareto.specs.Best.{competes}
+use Rattle.pareto.specs.Laws.Competing.{Listed}
 use Rattle.pareto.proofs.competing_rows.Given as goal
 
 abbrev pub invariant-loop-r : goal.invariant-loop-r

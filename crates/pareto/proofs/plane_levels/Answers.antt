@@ -1,4 +1,3 @@
-use borrow.Author.Rules.{rules}
 use lib.ListN.{length}
 use Rattle.pareto.specs.Table.{lower_in, plane_lower}
 use Rattle.pareto.specs.Laws.Planes.{plane_is, first_past, second_past, both_in_lem, looked_past, looked_in}

@@ -1,5 +1,4 @@
 use mathlib.Core.Path.{ap, ◌∙◌}
-use borrow.Author.Rules.{rules}
 use Rattle.preference.specs.Parts.{row_refusal}
 use Rattle.pareto.proofs.row_at_refusal.Goals as goal
 

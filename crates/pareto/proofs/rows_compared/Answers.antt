@@ -5,7 +5,6 @@ use Rattle.laws.specs.Laws.First.{any_more}
 use Rattle.pareto.specs.Table.{lower}
 use borrow.Author.Rules.{rules}
 use native.Mathlib.Omega.{arith}
-use Prim.Native.Nat.{◌≤◌, ◌-◌}
 use mathlib.Core.Path.{◌≡◌}
 use Rattle.pareto.proofs.rows_compared.Goals as goal
 

@@ -1,10 +1,6 @@
-use mathlib.Core.Path.{◌≡◌, refl, sym, ap, ◌∙◌}
-use mathlib.Core.Bool.{Bool, ◌||◌}
-use Rattle.laws.specs.First.{any_below, first_at}
-use Rattle.laws.specs.Laws.First.{any_more}
+use mathlib.Core.Path.{◌≡◌}
+use Rattle.laws.specs.First.{any_below}
 use Rattle.pareto.specs.Table.{lower}
-use borrow.Author.Rules.{rules}
-use native.Mathlib.Omega.{arith}
 use Prim.Native.Nat.{◌≤◌, ◌-◌}
 use mathlib.Core.Path.{◌≡◌}
 use Rattle.pareto.proofs.rows_compared.Given as goal

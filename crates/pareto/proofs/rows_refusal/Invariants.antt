@@ -1,15 +1,11 @@
 use lib.IntN.{ℤ}
 use mathlib.Core.List.{List}
-use mathlib.Core.Path.{◌≡◌, refl, sym, ◌∙◌}
+use mathlib.Core.Path.{◌≡◌}
 use Prim.Native.Nat.{ℕ, ◌-◌}
 use Rattle.laws.specs.First.{first_at, is_refusal}
-use Rattle.laws.specs.Laws.First.{refusal_on, refusal_hit, refusal_none}
 use Rattle.run_log.specs.Log.{row_count, row_at}
 use Rattle.preference.specs.Parts.{row_refusal}
 use Rattle.preference.specs.declared.PreferenceList.{PreferenceList}
-use Rattle.pareto.specs.Checked.{rows_refusal}
-use borrow.Author.Rules.{rules}
-use native.Mathlib.Omega.{arith}
 use Prim.Native.Nat.{ℕ, ◌≤◌, ◌-◌}
 use mathlib.Core.Path.{◌≡◌}
 use Rattle.pareto.proofs.rows_refusal.Given as goal

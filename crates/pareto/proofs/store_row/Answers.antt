@@ -1,6 +1,5 @@
 use mathlib.Core.Path.{sym}
 use lib.Seq.{set_out}
-use borrow.Author.Rules.{rules}
 use Rattle.pareto.proofs.store_row.Goals as goal
 
 pub returns-else-i-rows : goal.returns-else-i-rows

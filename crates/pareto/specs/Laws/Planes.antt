@@ -1,6 +1,6 @@
 -- Which of two rows of a table has a lower level, by the planes that it has.
-use Rattle.std.specs.Prelude.{◌≡◌, refl, ℕ, ◌+◌, ◌-◌, ◌/◌, ◌<◌, ◌≤◌, Bool, true, false, ◌&&◌, ◌||◌, cond, List, ltb, length}
-use Rattle.std.proofs.Common.{sym, ap₂, ◌∙◌, lt-ltb, le-ltb}
+use Rattle.std.specs.Prelude.{◌≡◌, refl, ℕ, ◌-◌, ◌/◌, ◌<◌, ◌≤◌, Bool, true, false, ◌&&◌, ◌||◌, List, ltb, length}
+use Rattle.std.proofs.Common.{sym, ◌∙◌, lt-ltb, le-ltb}
 use Rattle.pareto.specs.Table.{is_double, both_in, lower_in, lower_behind, plane_lower, double_lower, has_lower}
 use Rattle.pareto.specs.Table.{relation, compared, Looked}
 use Rattle.pareto.specs.declared.Lower.{Lower}

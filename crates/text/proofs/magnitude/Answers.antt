@@ -1,7 +1,4 @@
-use borrow.Author.Rules.{rules}
-use Prim.Native.Nat.{◌-◌}
 use mathlib.Core.Path.{◌≡◌}
-use borrow.Author.Rules.{rules}
 use lib.IntN.{pos}
 use Rattle.arith.specs.Gap.{gap}
 use Rattle.arith.specs.Laws.Local.{num}

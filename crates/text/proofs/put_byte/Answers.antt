@@ -1,7 +1,4 @@
-use borrow.Author.Rules.{rules}
 use native.Mathlib.Omega.{arith}
-use Prim.Native.Nat.{◌-◌}
-use borrow.Author.Rules.{rules}
 use Rattle.text.specs.Laws.Prints.{prints_byte, prints_past}
 use mathlib.Core.Path.{refl}
 use Rattle.text.proofs.put_byte.Goals as goal

@@ -1,8 +1,4 @@
 use borrow.Author.Rules.{rules}
-use Prim.Native.Nat.{◌≤◌, ◌-◌}
-use lib.ListN.{length}
-use lib.ListN.{take}
-use Rattle.text.specs.Prints.{Prints}
 use Rattle.text.specs.Laws.Prints.{prints_none, prints_then, prints_length}
 use lib.Seq.{take_all, take-suc}
 use native.Mathlib.Numerals.{add-one}

@@ -1,4 +1,3 @@
-use borrow.Author.Rules.{rules}
 use Rattle.text.specs.Laws.Prints.{prints_then}
 use Rattle.text.proofs.put_decimals.Goals as goal
 

@@ -1,6 +1,3 @@
-use borrow.Author.Rules.{rules}
-use Prim.Native.Nat.{◌-◌}
-use borrow.Author.Rules.{rules}
 use mathlib.Core.Path.{sym}
 use Rattle.arith.specs.Laws.Local.{num}
 use Rattle.text.specs.Laws.Sign.{below_sign, above_sign}

@@ -1,6 +1,3 @@
-use borrow.Author.Rules.{rules}
-use Prim.Native.Nat.{◌-◌}
-use borrow.Author.Rules.{rules}
 use Rattle.text.specs.Text.{decimal, signed}
 use Rattle.text.specs.Laws.Prints.{prints_then}
 use mathlib.Core.Path.{ap, ◌∙◌}

@@ -4,7 +4,6 @@ use Rattle.pareto.specs.Checked.{checked_refusal}
 use Rattle.pareto.specs.Laws.Call.{leaves_refused, leaves_accepted}
 use Rattle.window.specs.Engine.{window_refusal, window_call}
 use Rattle.window.specs.Laws.Accepted.{accepted}
-use borrow.Author.Rules.{rules}
 use lib.ListN.{length}
 use Rattle.window.proofs.run.Goals as goal
 

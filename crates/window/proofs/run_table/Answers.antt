@@ -4,13 +4,10 @@ use Prim.Native.Nat.{ℕ, ◌≤◌}
 use native.Mathlib.Omega.{arith}
 use lib.ListN.{length, take, drop, replicate, length-replicate}
 use lib.Seq.{sets, length-take-le}
-use borrow.Author.Rules.{rules}
 use Rattle.run_log.specs.Log.{Log, log_of, row_count}
 use Rattle.pareto.specs.Best.{competing, marks_after}
 use Rattle.pareto.specs.Laws.Competing.{competing_few, competing_front}
-use Rattle.window_machine.specs.Machine.{State, machine}
-use Rattle.window_step.specs.Work.{table_dominates}
-use Rattle.window.specs.Engine.{machine_of}
+use Rattle.window_machine.specs.Machine.{State}
 use Rattle.window.specs.Laws.Marks.{machine_best, count_small}
 use Rattle.window.proofs.Table.{rows_wait, filled_machine}
 use Rattle.window.proofs.run_table.Goals as goal

@@ -2,7 +2,6 @@ use mathlib.Core.Path.{sym, ◌∙◌}
 use Prim.Native.Nat.{◌+◌, ◌*◌}
 use native.Mathlib.Omega.{arith}
 use borrow.Author.Tests.{lt-ltb, le-ltb}
-use borrow.Author.Rules.{rules}
 use Rattle.laws.specs.Checks.{◌gives◌, ◌then◌}
 use Rattle.laws.specs.Laws.Checks.{then_first}
 use Rattle.run_log.specs.Log.{row_count}

@@ -2,7 +2,7 @@
 use Rattle.std.specs.Prelude.{◌≡◌, ℕ, ◌+◌, ◌*◌, ◌||◌, ltb, eqb}
 use Rattle.std.proofs.Common.{arith, ltb-false}
 use Rattle.std.proofs.lemmas.Bool.{eqb-false}
-use Rattle.laws.specs.Checks.{◌gives◌, ◌then◌}
+use Rattle.laws.specs.Checks.{◌gives◌}
 use Rattle.laws.specs.Laws.Bools.{neither}
 use Rattle.laws.specs.Laws.Checks.{gives_none, then_none}
 use Rattle.run_log.specs.Log.{Log, row_count, log_refusal, marks_refusal}

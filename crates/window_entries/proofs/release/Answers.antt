@@ -1,18 +1,56 @@
 use mathlib.Core.Path.{refl, sym, ap, ◌∙◌, ◌≡◌}
 use mathlib.Core.Bool.{true, false, not}
-use mathlib.Core.Logic.{⊎_elim}
+use mathlib.Core.List.{List}
 use lib.Dec.{ltb}
-use lib.ListN.{length-set, length}
+use lib.ListN.{get_or, set, length, length-set}
 use borrow.Author.Tests.{lt-ltb, le-ltb}
+use Rattle.std.proofs.Math.Decide.{dec_lt}
 use Rattle.window_machine.specs.Machine.{keep, marked, older, younger}
-use Rattle.window_entries.specs.Entries.{entries}
+use Rattle.window_entries.specs.Entries.{entry_at, entries, put_entry}
 use Rattle.window_entries.proofs.Unreleased.{unreleased}
 use Rattle.window_entries.proofs.Packed.{Packed, pack_start, read_is, skip_read, keep_read, pack_filtered, mark_read, leave_read, mark_end}
-use borrow.Author.Rules.{rules}
 use native.Mathlib.Omega.{arith}
-use Prim.Native.Nat.{◌<◌, ◌-◌}
+use Prim.Native.Nat.{ℕ, ◌<◌, ◌≤◌, ◌+◌, ◌-◌, ◌*◌}
 use Rattle.window_entries.proofs.release.Goals as goal
-use Rattle.window_entries.proofs.release.Goals.{then-timestamp-s, else-timestamp-s}
+
+-- an entry more is looked at: it is released, or put where it stays
+module _ (s n i : ℕ) (l₀ l m₀ m : List ℕ) (k r t : ℕ) (h : i < n) (room : 2 * n ≤ length l₀) (z : Packed (younger s) l₀ l n i k)
+    (row : r ≡ get_or l (2 * i) 0) (timestamp : t ≡ get_or l (2 * i + 1) 0) (long : length m ≡ length m₀)
+    (d : marked (keep (older s) (entries l₀ i (n - i))) m ≡ marked (keep (older s) (entries l₀ 0 n)) m₀) where
+  abbrev Turned : List ℕ → List ℕ → ℕ → Type 0
+  Turned l' m' k' =
+      Packed (younger s) l₀ l' n (i + 1) k'
+      × (length m' ≡ length m₀)
+      × (marked (keep (older s) (entries l₀ (i + 1) (n - (i + 1)))) m' ≡ marked (keep (older s) (entries l₀ 0 n)) m₀)
+
+  e : record { row = r; timestamp = t } ≡ entry_at l₀ i
+  e = read_is (younger s) l₀ n h z r t row timestamp
+
+  turned_out : t < s → Turned l (set m r 1) k
+  unfolding older younger
+  turned_out q =
+      let o : ltb t s ≡ true = lt-ltb t s q in (
+        skip_read (younger s) l₀ n h z r t row timestamp (ap not o),
+        length-set m r 1 ∙ long,
+        sym (mark_read (older s) l₀ n i m h (record { row = r; timestamp = t }) e o) ∙ d,
+      )
+
+  turned_in : s ≤ t → Turned (put_entry l k r t) m (k + 1)
+  unfolding older younger
+  turned_in q =
+      let o : ltb t s ≡ false = le-ltb t s q in (
+        keep_read (younger s) l₀ n h z r t row timestamp (ap not o) room,
+        long,
+        sym (leave_read (older s) l₀ n i m h (record { row = r; timestamp = t }) e o) ∙ d,
+      )
+
+  turned : {l' m' : List ℕ} {k' : ℕ} → (t < s → (l' ≡ l) × (m' ≡ set m r 1) × (k' ≡ k))
+      → (s ≤ t → (l' ≡ put_entry l k r t) × (m' ≡ m) × (k' ≡ k + 1)) → Turned l' m' k'
+  turned {l'} {m'} {k'} out in_place = go (dec_lt t s)
+    where
+      go : Dec (t < s) → Turned l' m' k'
+      go (yes q) = let w = out q in rw (w.0, w.1, w.2) (turned_out q)
+      go (no q) = let p : s ≤ t = omega arith in let w = in_place p in rw (w.0, w.1, w.2) (turned_in p)
 
 pub shape_of-work-then-s-word : goal.shape_of-work-then-s-word
 shape_of-work-then-s-word c = refl
@@ -28,30 +66,12 @@ loop-i-init c =
     (pack_start (younger a.s) a.work.now a.occupied, refl, rw e)
 
 pub loop-i-preserved : goal.loop-i-preserved
-unfolding older younger
 loop-i-preserved c =
     let l = c.loop-i in
     let a = c.args in
-    let h : l.i < a.occupied = omega arith in
-    let r = c.word-row.result in
-    let t = c.word-timestamp.result in
-    let row = c.word-row.ensures in
-    let timestamp = c.word-timestamp.ensures in
-    let e = read_is (younger a.s) a.work.now a.occupied h l.invariant.0 r t row timestamp in
-    elim c.if-timestamp-s.branch [
-      | then-timestamp-s w ↦
-          let o : ltb t a.s ≡ true = lt-ltb t a.s w.if-timestamp-s.true in rw (w.work-is, w.marks-is ∙ w.mark.ensures, w.m-is) (
-            skip_read (younger a.s) a.work.now a.occupied h l.invariant.0 r t row timestamp (ap not o),
-            length-set l.marks r 1 ∙ l.invariant.1,
-            sym (mark_read (older a.s) a.work.now a.occupied l.i l.marks h (record { row = r; timestamp = t }) e o) ∙ l.invariant.2,
-          )
-      | else-timestamp-s w ↦
-          let o : ltb t a.s ≡ false = le-ltb t a.s w.if-timestamp-s.false in rw (w.work-is ∙ w.put_entry.ensures, w.marks-is, w.m-is) (
-            keep_read (younger a.s) a.work.now a.occupied h l.invariant.0 r t row timestamp (ap not o) (omega arith),
-            l.invariant.1,
-            sym (leave_read (older a.s) a.work.now a.occupied l.i l.marks h (record { row = r; timestamp = t }) e o) ∙ l.invariant.2,
-          )
-    ]
+    turned a.s a.occupied l.i a.work.now l.work a.marks.now l.marks l.m c.word-row.result c.word-timestamp.result (omega arith) (omega arith)
+    l.invariant.0 c.word-row.ensures c.word-timestamp.ensures l.invariant.1 l.invariant.2
+    (λ h. (grind arith, grind arith, grind arith)) (λ h. (grind arith, grind arith, grind arith))
 
 pub shape_of-work : goal.shape_of-work
 shape_of-work c = c.loop-i.invariant.0.long

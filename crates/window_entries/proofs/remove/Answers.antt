@@ -1,15 +1,10 @@
-use borrow.Author.Rules.{rules}
 use native.Mathlib.Omega.{arith}
-use Prim.Native.Nat.{◌≤◌, ◌<◌, ◌-◌}
-use mathlib.Core.Path.{refl, sym, ap, ◌∙◌, ◌≡◌}
-use mathlib.Core.Bool.{Bool}
-use mathlib.Core.Logic.{⊎_elim}
-use lib.ListN.{length}
+use Prim.Native.Nat.{◌<◌}
+use mathlib.Core.Path.{refl, sym, ap, ◌∙◌}
 use borrow.Author.Tests.{eq-eqb, ne_eqb, not-true, not-false}
-use Rattle.window_machine.specs.Machine.{Entry}
-use Rattle.window_entries.specs.Entries.{entry_at, Flags}
+use Rattle.window_entries.specs.Entries.{entry_at}
 use Rattle.window_entries.specs.Laws.Entries.{length_put}
-use Rattle.window_entries.proofs.Packed.{Packed, pack_from, read_is, skip_read, keep_read, pack_filtered}
+use Rattle.window_entries.proofs.Packed.{pack_from, read_is, skip_read, keep_read, pack_filtered}
 use Rattle.window_entries.proofs.remove.Goals as goal
 use Rattle.window_entries.proofs.remove.Goals.{then-flags-i-ne-SECOND_DOMINATES, else-flags-i-ne-SECOND_DOMINATES}
 

@@ -1,6 +1,5 @@
 use lib.Seq.{set_out}
 use mathlib.Core.Path.{sym}
-use borrow.Author.Rules.{rules}
 use Rattle.window_entries.proofs.store.Goals as goal
 
 pub returns-else-i-work : goal.returns-else-i-work

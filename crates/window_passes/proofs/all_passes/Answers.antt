@@ -1,14 +1,7 @@
-use mathlib.Core.Path.{refl, ◌∙◌, ◌≡◌}
-use Rattle.window_step.specs.Work.{table_dominates}
-use Rattle.window_passes.proofs.Running.{Running, running_start, running_ready, running_last, running_more, running_out}
-use borrow.Author.Rules.{rules}
+use mathlib.Core.Path.{refl, ◌∙◌}
+use Rattle.window_passes.proofs.Running.{running_start, running_ready, running_last, running_more, running_out}
 use native.Mathlib.Omega.{arith}
-use Prim.Native.Nat.{ℕ, ◌<◌}
-use lib.ListN.{length}
 use Rattle.window_passes.proofs.all_passes.Goals as goal
-
-above_zero : (n : ℕ) → (n ≡ 0 → ⊥) → 0 < n
-above_zero n h = omega arith
 
 pub loop-left-init : goal.loop-left-init
 loop-left-init c = (refl, running_start c.requires)
@@ -53,7 +46,7 @@ loop-left-preserved c =
     let l = c.loop-left.invariant in (
       c.one_pass-passed.auto.flags ∙ l.0,
       running_more c.requires l.1 c.loop-left-test.true c.one_pass-passed.ensures
-          (above_zero c.one_pass-passed.result.overflow c.if-overflow-eq0.false) c.one_pass-passed.auto.work c.one_pass-passed.auto.marks,
+          (omega arith) c.one_pass-passed.auto.work c.one_pass-passed.auto.marks,
     )
 
 pub shape_of-work : goal.shape_of-work

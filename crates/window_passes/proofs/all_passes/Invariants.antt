@@ -1,9 +1,6 @@
-use mathlib.Core.Path.{refl, ◌∙◌, ◌≡◌}
+use mathlib.Core.Path.{◌≡◌}
 use Rattle.window_step.specs.Work.{table_dominates}
-use Rattle.window_passes.proofs.Running.{Running, running_start, running_ready, running_last, running_more, running_out}
-use borrow.Author.Rules.{rules}
-use native.Mathlib.Omega.{arith}
-use Prim.Native.Nat.{ℕ, ◌<◌}
+use Rattle.window_passes.proofs.Running.{Running}
 use lib.ListN.{length}
 use Rattle.window_passes.proofs.all_passes.Given as goal
 

@@ -1,11 +1,5 @@
-use mathlib.Core.Path.{◌≡◌, refl, ◌∙◌}
-use mathlib.Core.List.{map}
-use Prim.Native.Nat.{◌≤◌, ◌-◌}
+use mathlib.Core.Path.{refl, ◌∙◌}
 use native.Mathlib.Omega.{arith}
-use lib.ListN.{length, take}
-use borrow.Author.Rules.{rules}
-use Rattle.window_machine.specs.Machine.{unread}
-use Rattle.window_entries.specs.Entries.{entries}
 use Rattle.window_passes.proofs.Rows.{rows_none, rows_more, rows_all}
 use Rattle.window_passes.proofs.fill_waiting.Goals as goal
 

@@ -1,12 +1,9 @@
-use mathlib.Core.Path.{◌≡◌, refl, ◌∙◌}
+use mathlib.Core.Path.{◌≡◌}
 use mathlib.Core.List.{map}
 use Prim.Native.Nat.{◌≤◌, ◌-◌}
-use native.Mathlib.Omega.{arith}
 use lib.ListN.{length, take}
-use borrow.Author.Rules.{rules}
 use Rattle.window_machine.specs.Machine.{unread}
 use Rattle.window_entries.specs.Entries.{entries}
-use Rattle.window_passes.proofs.Rows.{rows_none, rows_more, rows_all}
 use Rattle.window_passes.proofs.fill_waiting.Given as goal
 
 abbrev pub invariant-loop-i : goal.invariant-loop-i

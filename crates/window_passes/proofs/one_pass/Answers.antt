@@ -1,9 +1,5 @@
-use mathlib.Core.Path.{refl, ◌∙◌, ◌≡◌}
-use Rattle.window_step.specs.Work.{table_dominates}
-use Rattle.window_passes.proofs.Passing.{Passing, passing_start, passing_ready, passing_rising, passing_step, passing_end}
-use borrow.Author.Rules.{rules}
-use Prim.Native.Nat.{◌-◌}
-use lib.ListN.{length}
+use mathlib.Core.Path.{refl, ◌∙◌}
+use Rattle.window_passes.proofs.Passing.{passing_start, passing_ready, passing_rising, passing_step, passing_end}
 use Rattle.window_passes.proofs.one_pass.Goals as goal
 
 pub loop-i-init : goal.loop-i-init

@@ -1,7 +1,6 @@
-use mathlib.Core.Path.{refl, ◌∙◌, ◌≡◌}
+use mathlib.Core.Path.{◌≡◌}
 use Rattle.window_step.specs.Work.{table_dominates}
-use Rattle.window_passes.proofs.Passing.{Passing, passing_start, passing_ready, passing_rising, passing_step, passing_end}
-use borrow.Author.Rules.{rules}
+use Rattle.window_passes.proofs.Passing.{Passing}
 use Prim.Native.Nat.{◌-◌}
 use lib.ListN.{length}
 use Rattle.window_passes.proofs.one_pass.Given as goal

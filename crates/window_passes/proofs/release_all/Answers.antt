@@ -1,9 +1,6 @@
 use mathlib.Core.Path.{refl, sym, ap, ◌∙◌, ◌≡◌}
 use lib.ListN.{get_or, set, length-set, length}
-use Rattle.window_machine.specs.Machine.{marked}
-use Rattle.window_entries.specs.Entries.{entries}
 use Rattle.window_entries.specs.Laws.Entries.{mark_one, mark_all_end}
-use borrow.Author.Rules.{rules}
 use native.Mathlib.Omega.{arith}
 use Prim.Native.Nat.{ℕ, ◌<◌, ◌-◌, ◌*◌}
 use Rattle.window_passes.proofs.release_all.Goals as goal

@@ -2,7 +2,6 @@ use Prim.Native.Nat.{ℕ, ◌*◌, ◌≤◌}
 use native.Mathlib.Nat.{mul-le-mul}
 use native.Mathlib.Omega.{arith}
 use lib.ListN.{length}
-use borrow.Author.Rules.{rules}
 use Rattle.window_passes.proofs.Running.{ran_count, ran_marks}
 use Rattle.window_passes.proofs.run_rows.Goals as goal
 

@@ -1,15 +1,9 @@
-use borrow.Author.Rules.{rules}
-use native.Mathlib.Omega.{arith}
-use Prim.Native.Nat.{ℕ, ◌≤◌, ◌<◌, ◌-◌, ◌+◌}
-use mathlib.Core.Path.{◌≡◌, sym, ◌∙◌}
+use Prim.Native.Nat.{ℕ, ◌≤◌, ◌<◌, ◌-◌}
+use mathlib.Core.Path.{◌≡◌}
 use mathlib.Core.Bool.{true}
-use borrow.Author.Count.{below_more}
-use Rattle.pareto.specs.Laws.Planes.{lower_plane, compared_plane}
 use Rattle.window_machine.specs.Machine.{spares}
 use Rattle.window_entries.specs.Entries.{entry_at}
 use Rattle.window_step.specs.Work.{table_dominates, Undropped}
-use Rattle.window_step.proofs.Comparing.{same_bools, apart_undropped, apart_spared}
-use Rattle.window_step.proofs.Scanning.{undropped_start, undropped_more}
 use Rattle.window_step.proofs.apart.Given as goal
 
 abbrev pub invariant-loop-left : goal.invariant-loop-left

@@ -1,4 +1,3 @@
-use borrow.Author.Rules.{rules}
 use Rattle.window_step.proofs.entry_compared.Goals as goal
 
 pub returns : goal.returns

@@ -1,7 +1,6 @@
 use Rattle.window_step.proofs.Judging.{compared_few, judged_drop, judged_enter, judged_aside}
 use Rattle.window_machine.specs.Machine.{spares}
 use Rattle.window_step.specs.Work.{table_dominates}
-use borrow.Author.Rules.{rules}
 use native.Mathlib.Omega.{arith}
 use Rattle.window_step.proofs.judge.Goals as goal
 

@@ -1,5 +1,4 @@
 use Rattle.window_step.proofs.Releasing.{released_ready, released_read}
-use borrow.Author.Rules.{rules}
 use Rattle.window_step.proofs.read_row.Goals as goal
 
 pub judge-requires : goal.judge-requires

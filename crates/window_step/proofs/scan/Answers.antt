@@ -1,26 +1,18 @@
-use borrow.Author.Rules.{rules}
 use native.Mathlib.Omega.{arith}
-use Prim.Native.Nat.{◌-◌}
-use mathlib.Core.Path.{◌≡◌, refl, ◌∙◌}
-use lib.ListN.{length, length-set}
-use Rattle.window_step.proofs.Scanning.{Scanning, scanning_start, scanning_hit, scanning_more, scanning_some, scanning_none}
+use mathlib.Core.Path.{refl, ◌∙◌}
+use lib.ListN.{length-set}
+use Rattle.window_step.proofs.Scanning.{scanning_start, scanning_more, scanning_some, scanning_none}
 use Rattle.window_step.proofs.scan.Goals as goal
 
 pub loop-at-init : goal.loop-at-init
 loop-at-init c = (refl, scanning_start c.passed_first-front.ensures)
-
-pub shape_of-flags-then-relation-eq-FIRST_DOMINATES : goal.shape_of-flags-then-relation-eq-FIRST_DOMINATES
-shape_of-flags-then-relation-eq-FIRST_DOMINATES c = c.loop-at.invariant.0
-
-pub returns-then-relation-eq-FIRST_DOMINATES : goal.returns-then-relation-eq-FIRST_DOMINATES
-returns-then-relation-eq-FIRST_DOMINATES c = scanning_hit c.loop-at.invariant.1 c.loop-at-test.true c.if-relation-eq-FIRST_DOMINATES.true
 
 pub loop-at-preserved : goal.loop-at-preserved
 loop-at-preserved c =
     let l = c.loop-at in
     let g = c.requires in (
       length-set l.flags l.at l.relation ∙ l.invariant.0,
-      scanning_more l.invariant.1 c.loop-at-test.true c.if-relation-eq-FIRST_DOMINATES.false (omega arith) c.entry_compared-relation.ensures,
+      scanning_more l.invariant.1 c.loop-at-test.true (λ e. omega arith) (omega arith) c.entry_compared-relation.ensures,
     )
 
 pub shape_of-flags-then-dominates : goal.shape_of-flags-then-dominates

@@ -1,9 +1,7 @@
-use borrow.Author.Rules.{rules}
-use native.Mathlib.Omega.{arith}
 use Prim.Native.Nat.{◌-◌}
-use mathlib.Core.Path.{◌≡◌, refl, ◌∙◌}
-use lib.ListN.{length, length-set}
-use Rattle.window_step.proofs.Scanning.{Scanning, scanning_start, scanning_hit, scanning_more, scanning_some, scanning_none}
+use mathlib.Core.Path.{◌≡◌}
+use lib.ListN.{length}
+use Rattle.window_step.proofs.Scanning.{Scanning}
 use Rattle.window_step.proofs.scan.Given as goal
 
 abbrev pub invariant-loop-at : goal.invariant-loop-at
