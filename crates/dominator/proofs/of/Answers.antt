@@ -23,11 +23,13 @@ first_of_log-first-requires c =
 pub overflow_cast-result : goal.overflow_cast-result
 overflow_cast-result c =
     let a = c.args in
-    let g = accepted a.list (log_of a.log.now) a.row c.checked_refusal-refusal.result c.checked_refusal-refusal.ensures c.if-refusal-ne0.false (omega (arith, c.if-rows-asked.false, c.row_count-rows.ensures)) in
+    let g = accepted a.list (log_of a.log.now) a.row c.checked_refusal-refusal.result c.checked_refusal-refusal.ensures c.if-refusal-ne0.false
+    (omega (arith, c.if-rows-asked.false, c.row_count-rows.ensures)) in
     omega (arith, g.few, c.row_count-rows.ensures)
 
 pub returns : goal.returns
 returns c =
     let a = c.args in
-    beaten a.list (log_of a.log.now) a.row c.checked_refusal-refusal.result c.checked_refusal-refusal.ensures c.if-refusal-ne0.false (omega (arith, c.if-rows-asked.false, c.row_count-rows.ensures)) c.first_of_log-first.result c.first_of_log-first.ensures
+    beaten a.list (log_of a.log.now) a.row c.checked_refusal-refusal.result c.checked_refusal-refusal.ensures c.if-refusal-ne0.false
+    (omega (arith, c.if-rows-asked.false, c.row_count-rows.ensures)) c.first_of_log-first.result c.first_of_log-first.ensures
     (omega (arith, c.row_count-rows.ensures))
