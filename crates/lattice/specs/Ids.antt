@@ -50,7 +50,7 @@ unfoldable pub node_by : List ℕ → List ℕ → ℕ → ℕ
 node_by weights table r =
     cond (ltb columns (length weights))
     (node_at (take columns weights) table (columns * r) + node_at (drop columns weights) table
-        (max_values + columns * r))
+    (max_values + columns * r))
     (node_at weights table (columns * r))
 
 -- the number of the node that row r of a table holds; a row that does not compete holds none

@@ -3,7 +3,6 @@ use mathlib.Core.Bool.{Bool}
 use mathlib.Core.List.{List, ◌++◌}
 use Prim.Native.Nat.{ℕ, ◌≤◌, min}
 use native.Mathlib.Omega.{arith}
-use borrow.Author.Rules.{rules}
 use borrow.Author.Tests.{not-true, not-false}
 use lib.ListN.{length, take, drop, replicate, length-append}
 use lib.Seq.{length-take-le, take_at}
@@ -18,7 +17,7 @@ use Rattle.lattice_marks.specs.Settled.{Settles}
 use Rattle.lattice.specs.declared.LatticeAnswer.{LatticeAnswer}
 use Rattle.lattice.specs.declared.LatticeAnswer.TheVariants.{Crossed, Refused}
 use Rattle.lattice.specs.Walked.{lattice_tops}
-use Rattle.lattice.specs.Ids.{Weighed, row_nodes}
+use Rattle.lattice.specs.Ids.{row_nodes}
 use Rattle.lattice.specs.Laws.Walked.{tops_are}
 use Rattle.lattice.specs.Laws.Ends.{Passed, passed, Ends, too_many, too_short, spent, through}
 use Rattle.lattice.proofs.engine.Goals as goal
@@ -94,14 +93,14 @@ returns-then-nodes-count c =
 pub slice_bounds-weights-end-2 : goal.slice_bounds-weights-end-2
 slice_bounds-weights-end-2 c =
     rw (length-append c.fill_weights-count.new.weights)
-        (omega (arith, (c.fill_weights-count.auto.weights ∙ front c.parts-parts.result (few c.args.list c.parts-parts.result c.parts-parts.ensures))))
+    (omega (arith, (c.fill_weights-count.auto.weights ∙ front c.parts-parts.result (few c.args.list c.parts-parts.result c.parts-parts.ensures))))
 
 pub slice_bounds-walk_rows-end : goal.slice_bounds-walk_rows-end
 slice_bounds-walk_rows-end c =
     sym (ap length
-        (weights_front c.parts-parts.result c.fill_weights-count.new.weights
-            (c.fill_weights-count.auto.weights ∙ front c.parts-parts.result (few c.args.list c.parts-parts.result c.parts-parts.ensures)))
-                ∙ c.fill_weights-count.auto.weights ∙ front c.parts-parts.result (few c.args.list c.parts-parts.result c.parts-parts.ensures))
+    (weights_front c.parts-parts.result c.fill_weights-count.new.weights
+    (c.fill_weights-count.auto.weights ∙ front c.parts-parts.result (few c.args.list c.parts-parts.result c.parts-parts.ensures)))
+    ∙ c.fill_weights-count.auto.weights ∙ front c.parts-parts.result (few c.args.list c.parts-parts.result c.parts-parts.ensures))
 
 pub slice_bounds-walk_rows-end-2 : goal.slice_bounds-walk_rows-end-2
 slice_bounds-walk_rows-end-2 c =
@@ -110,7 +109,7 @@ slice_bounds-walk_rows-end-2 c =
 pub slice_bounds-walk_rows-end-3 : goal.slice_bounds-walk_rows-end-3
 slice_bounds-walk_rows-end-3 c =
     sym (length-take-le _ c.args.marks.now
-        (omega (arith, c.row_count-rows.ensures, (checks c.args.list (log_of c.args.log.now) (length c.args.marks.now) c.requires).marks_fit)))
+    (omega (arith, c.row_count-rows.ensures, (checks c.args.list (log_of c.args.log.now) (length c.args.marks.now) c.requires).marks_fit)))
 
 pub slice_bounds-walk_rows-end-5 : goal.slice_bounds-walk_rows-end-5
 slice_bounds-walk_rows-end-5 c = sym (length-take-le _ _ c.if-nodes-count.false)
@@ -121,20 +120,20 @@ walk_rows-progress-requires c =
     let n = (count_is c.args.list _ c.fill_weights-count.ensures.counted c.if-count-gt-MAX_NODES.false) in
     record {
       weighed =
-        rw (weights_front c.parts-parts.result c.fill_weights-count.new.weights
-            (c.fill_weights-count.auto.weights ∙ front c.parts-parts.result (few c.args.list c.parts-parts.result c.parts-parts.ensures)))
-        (record {
-          list_accepted = pass.list_accepted;
-          few = omega (arith, n, c.if-count-gt-MAX_NODES.false);
-          weights_are = c.fill_weights-count.ensures.weights_are c.if-count-gt-MAX_NODES.false;
-        });
+          rw (weights_front c.parts-parts.result c.fill_weights-count.new.weights
+          (c.fill_weights-count.auto.weights ∙ front c.parts-parts.result (few c.args.list c.parts-parts.result c.parts-parts.ensures)))
+          (record {
+            list_accepted = pass.list_accepted;
+            few = omega (arith, n, c.if-count-gt-MAX_NODES.false);
+            weights_are = c.fill_weights-count.ensures.weights_are c.if-count-gt-MAX_NODES.false;
+          });
       log_value = pass.log_accepted;
       log_value_2 = pass.rows_accepted;
       nodes_len = length-take-le _ _ c.if-nodes-count.false ∙ n;
       marks_len =
           length-take-le _ c.args.marks.now
-              (omega (arith, c.row_count-rows.ensures, (checks c.args.list (log_of c.args.log.now) (length c.args.marks.now) c.requires).marks_fit))
-                  ∙ c.row_count-rows.ensures;
+          (omega (arith, c.row_count-rows.ensures, (checks c.args.list (log_of c.args.log.now) (length c.args.marks.now) c.requires).marks_fit))
+          ∙ c.row_count-rows.ensures;
     }
 
 pub returns-then-not-progress : goal.returns-then-not-progress
@@ -142,12 +141,12 @@ returns-then-not-progress c =
     let n = (count_is c.args.list _ c.fill_weights-count.ensures.counted c.if-count-gt-MAX_NODES.false) in
     let e =
     ends c.args.list (log_of c.args.log.now) c.args.marks.now c.args.nodes.now c.args.budget
-        (Refused 11) c.walk_rows-progress.new.marks c.walk_rows-progress.new.nodes _ _ c.row_count-rows.ensures
-            (count_is c.args.list _ c.fill_weights-count.ensures.counted c.if-count-gt-MAX_NODES.false)
+    (Refused 11) c.walk_rows-progress.new.marks c.walk_rows-progress.new.nodes _ _ c.row_count-rows.ensures
+    (count_is c.args.list _ c.fill_weights-count.ensures.counted c.if-count-gt-MAX_NODES.false)
     (spent c.args.list (log_of c.args.log.now) c.args.marks.now c.args.nodes.now c.args.budget c.requires (omega (arith, n, c.if-count-gt-MAX_NODES.false))
     (rw (count_is c.args.list _ c.fill_weights-count.ensures.counted c.if-count-gt-MAX_NODES.false) at c.if-nodes-count.false) _ _ _ _
     (settled c.args.list
-        (log_of c.args.log.now) c.args.budget c.row_count-rows.result c.args.marks.now _ _ _ _ c.row_count-rows.ensures c.walk_rows-progress.ensures)
+    (log_of c.args.log.now) c.args.budget c.row_count-rows.result c.args.marks.now _ _ _ _ c.row_count-rows.ensures c.walk_rows-progress.ensures)
     (not-true _ c.if-not-progress.true)) in
     record { leaves = e.0; nodes_after = e.1 }
 
@@ -156,11 +155,11 @@ returns c =
     let n = (count_is c.args.list _ c.fill_weights-count.ensures.counted c.if-count-gt-MAX_NODES.false) in
     let e =
     ends c.args.list (log_of c.args.log.now) c.args.marks.now c.args.nodes.now c.args.budget
-        (Crossed c.walk_rows-progress.result.made) c.walk_rows-progress.new.marks c.walk_rows-progress.new.nodes _ _ c.row_count-rows.ensures
-            (count_is c.args.list _ c.fill_weights-count.ensures.counted c.if-count-gt-MAX_NODES.false)
+    (Crossed c.walk_rows-progress.result.made) c.walk_rows-progress.new.marks c.walk_rows-progress.new.nodes _ _ c.row_count-rows.ensures
+    (count_is c.args.list _ c.fill_weights-count.ensures.counted c.if-count-gt-MAX_NODES.false)
     (through c.args.list (log_of c.args.log.now) c.args.marks.now c.args.nodes.now c.args.budget c.requires (omega (arith, n, c.if-count-gt-MAX_NODES.false))
     (rw (count_is c.args.list _ c.fill_weights-count.ensures.counted c.if-count-gt-MAX_NODES.false) at c.if-nodes-count.false) _ _ _ _
     (settled c.args.list
-        (log_of c.args.log.now) c.args.budget c.row_count-rows.result c.args.marks.now _ _ _ _ c.row_count-rows.ensures c.walk_rows-progress.ensures)
+    (log_of c.args.log.now) c.args.budget c.row_count-rows.result c.args.marks.now _ _ _ _ c.row_count-rows.ensures c.walk_rows-progress.ensures)
     (not-false _ c.if-not-progress.false)) in
     record { leaves = e.0; nodes_after = e.1 }

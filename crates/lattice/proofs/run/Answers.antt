@@ -1,5 +1,4 @@
 use mathlib.Core.Path.{◌≡◌, sym, ap, ◌∙◌}
-use borrow.Author.Rules.{rules}
 use lib.ListN.{length}
 use Rattle.laws.specs.Laws.Checks.{then_first}
 use Rattle.run_log.specs.Log.{Log, log_of, marks_refusal}
@@ -31,7 +30,7 @@ returns-then-k-ne0 c =
 pub engine-requires : goal.engine-requires
 engine-requires c =
     sym (refusal_is c.args.list (log_of c.args.log.now) (length c.args.marks.now) _ _ c.marks_refusal-short.ensures c.checked_refusal-k.ensures)
-        ∙ c.if-k-ne0.false
+    ∙ c.if-k-ne0.false
 
 pub returns : goal.returns
 returns c = c.engine.ensures

@@ -5,7 +5,6 @@ use lib.IntN.{ℤ}
 use Rattle.run_log.specs.Log.{row_count, log_refusal}
 use Prim.Native.Nat.{ℕ, ◌≤◌}
 use native.Mathlib.Omega.{arith}
-use borrow.Author.Rules.{rules}
 use lib.ListN.{length, take, drop, replicate, length-append, length-replicate}
 use lib.Seq.{length-take-le, take_at}
 use Rattle.run_log.specs.Laws.Log.{accepted}
@@ -61,16 +60,18 @@ fill_ids-requires c =
 pub slice_bounds-ids-end-2 : goal.slice_bounds-ids-end-2
 slice_bounds-ids-end-2 c =
     rw (length-append c.fill_ids.new.ids)
-        (omega (arith,
-            (c.fill_ids.auto.ids ∙ front (length c.args.marks.now) (few c.args.log.now (length c.args.marks.now) c.requires.log_value c.requires.marks_len))))
+    (omega (
+      arith,
+      (c.fill_ids.auto.ids ∙ front (length c.args.marks.now) (few c.args.log.now (length c.args.marks.now) c.requires.log_value c.requires.marks_len)),
+    ))
 
 pub slice_bounds-settle-end : goal.slice_bounds-settle-end
 slice_bounds-settle-end c =
     sym (ap length
-        (ids_front c.fill_ids.new.ids (length c.args.marks.now)
-            (c.fill_ids.auto.ids ∙ front (length c.args.marks.now) (few c.args.log.now (length c.args.marks.now) c.requires.log_value c.requires.marks_len)))
-                ∙ c.fill_ids.auto.ids
-                    ∙ front (length c.args.marks.now) (few c.args.log.now (length c.args.marks.now) c.requires.log_value c.requires.marks_len))
+    (ids_front c.fill_ids.new.ids (length c.args.marks.now)
+    (c.fill_ids.auto.ids ∙ front (length c.args.marks.now) (few c.args.log.now (length c.args.marks.now) c.requires.log_value c.requires.marks_len)))
+    ∙ c.fill_ids.auto.ids
+    ∙ front (length c.args.marks.now) (few c.args.log.now (length c.args.marks.now) c.requires.log_value c.requires.marks_len))
 
 pub settle-requires : goal.settle-requires
 settle-requires c =
@@ -78,15 +79,15 @@ settle-requires c =
       small = small _ _ _ c.requires.weighed c.requires.nodes_len;
       marks_len =
           rw (ids_front c.fill_ids.new.ids (length c.args.marks.now)
-              (c.fill_ids.auto.ids ∙ front (length c.args.marks.now) (few c.args.log.now (length c.args.marks.now) c.requires.log_value c.requires.marks_len)))
-                  (sym (c.fill_ids.auto.ids
-                      ∙ front (length c.args.marks.now) (few c.args.log.now (length c.args.marks.now) c.requires.log_value c.requires.marks_len)));
+          (c.fill_ids.auto.ids ∙ front (length c.args.marks.now) (few c.args.log.now (length c.args.marks.now) c.requires.log_value c.requires.marks_len)))
+          (sym (c.fill_ids.auto.ids
+          ∙ front (length c.args.marks.now) (few c.args.log.now (length c.args.marks.now) c.requires.log_value c.requires.marks_len)));
     }
 
 pub returns : goal.returns
 returns c =
     told _ _ _ _ _ _ _ _ _ _ _ _ c.requires.weighed.weights_are
     (ids_front c.fill_ids.new.ids (length c.args.marks.now)
-        (c.fill_ids.auto.ids ∙ front (length c.args.marks.now) (few c.args.log.now (length c.args.marks.now) c.requires.log_value c.requires.marks_len))
-            ∙ c.fill_ids.ensures)
+    (c.fill_ids.auto.ids ∙ front (length c.args.marks.now) (few c.args.log.now (length c.args.marks.now) c.requires.log_value c.requires.marks_len))
+    ∙ c.fill_ids.ensures)
     c.requires.nodes_len c.settle.ensures

@@ -82,8 +82,12 @@ module _ (l : PreferenceList) (log : Log) (marks nodes : List ℕ) (budget : ℕ
             ≡ (ltb budget (crossings (lattice_tops l) (lattice_rows l log)) gives 11)
         unfolding lattice_refusal ◌gives◌ ◌then◌
         last =
-            rw (z, le-ltb 32768 (node_count (lattice_tops l)) few, le-ltb (length nodes)
-                (node_count (lattice_tops l)) fit)
+            rw (
+              z,
+              le-ltb 32768 (node_count (lattice_tops l)) few,
+              le-ltb (length nodes)
+                  (node_count (lattice_tops l)) fit,
+            )
 
         -- from the walk on weights and node numbers
         module _ (ok : Bool) (made : ℕ) (marks' nodes' : List ℕ)
@@ -106,7 +110,7 @@ module _ (l : PreferenceList) (log : Log) (marks nodes : List ℕ) (budget : ℕ
                 ≡ joined (crossed_at tops rows) (node_count tops)
             walk_is =
                 trail_crossed tops rows valid (row_nodes l log) (λ y h. rows_hold l log y (omega arith))
-                    (node_count tops)
+                (node_count tops)
                 (le_refl (node_count tops))
 
             count_is : length (crossed (weights_of tops) (row_nodes l log) (node_count tops)) ≡ crossings tops rows
