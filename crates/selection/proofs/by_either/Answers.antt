@@ -1,13 +1,10 @@
-use borrow.Author.Rules.{rules}
-use Prim.Native.Nat.{ℕ, ◌-◌}
+use Prim.Native.Nat.{ℕ}
 use mathlib.Core.Path.{◌≡◌, sym, ap, ◌∙◌}
 use mathlib.Core.List.{List}
-use lib.ListN.{length}
 use Rattle.laws.specs.Outcome.{Outcome, accepted, refused}
-use Rattle.run_log.specs.Log.{Log, log_of}
-use Rattle.pareto.specs.Call.{Call, counting, Leaves}
+use Rattle.run_log.specs.Log.{log_of}
+use Rattle.pareto.specs.Call.{Call, Leaves}
 use Rattle.pareto.specs.Laws.Call.{leaves_told}
-use Rattle.lattice.specs.Engine.{lattice_call}
 use Rattle.selection.specs.Selection.{outcome_of}
 use Rattle.selection.specs.declared.Selection.{Selection}
 use Rattle.selection.specs.Laws.Engines.{first_accepts, first_refuses, second_answers}

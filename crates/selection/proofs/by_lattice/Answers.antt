@@ -1,15 +1,12 @@
-use borrow.Author.Rules.{rules}
-use Prim.Native.Nat.{ℕ, ◌≤◌, ◌-◌}
+use Prim.Native.Nat.{ℕ}
 use mathlib.Core.Path.{◌≡◌, sym, ap}
 use mathlib.Core.List.{List}
 use lib.ListN.{length, replicate, length-replicate}
-use Rattle.laws.specs.Outcome.{accepted, refused}
-use Rattle.run_log.specs.Log.{log_of, row_count}
+use Rattle.run_log.specs.Log.{log_of}
 use Rattle.pareto.specs.Call.{Call, Leaves}
 use Rattle.pareto.specs.Laws.Call.{accepted_leaves, leaves_told, accepted_counts, refused_counts}
 use Rattle.lattice.specs.Engine.{lattice_call, outcome_of}
 use Rattle.lattice.specs.declared.LatticeAnswer.{LatticeAnswer}
-use Rattle.lattice.specs.declared.LatticeAnswer.TheVariants.{Crossed, Refused}
 use Rattle.selection.specs.Laws.Engines.{lattice_few, own_nodes}
 use Rattle.selection.proofs.by_lattice.Goals as goal
 
@@ -27,13 +24,13 @@ count_marked-requires c =
     lattice_few c.args.list (log_of c.args.log.now) (length c.args.marks.now) 32768 c.args.budget
     (accepted_leaves (lattice_call c.args.list (log_of c.args.log.now) (length c.args.marks.now) 32768 c.args.budget) c.args.marks.now _ c.run.new.marks
     (told _ c.args.marks.now c.run.new.marks _ _ c.in-Crossed.is
-        (own_nodes _ _ c.args.marks.now c.run.new.marks _ _ c.args.budget zeros c.run.ensures.leaves))).0
+    (own_nodes _ _ c.args.marks.now c.run.new.marks _ _ c.args.budget zeros c.run.ensures.leaves))).0
 
 pub returns-in-Crossed : goal.returns-in-Crossed
 returns-in-Crossed c =
     accepted_counts
-        (lattice_call c.args.list (log_of c.args.log.now) (length c.args.marks.now) 32768 c.args.budget) c.args.marks.now _ c.count_marked.result
-            c.run.new.marks
+    (lattice_call c.args.list (log_of c.args.log.now) (length c.args.marks.now) 32768 c.args.budget) c.args.marks.now _ c.count_marked.result
+    c.run.new.marks
     (told _ c.args.marks.now c.run.new.marks _ _ c.in-Crossed.is (own_nodes _ _ c.args.marks.now c.run.new.marks _ _ c.args.budget zeros c.run.ensures.leaves))
     c.count_marked.ensures
 

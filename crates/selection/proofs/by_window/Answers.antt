@@ -1,15 +1,12 @@
-use borrow.Author.Rules.{rules}
-use Prim.Native.Nat.{ℕ, ◌≤◌, ◌-◌}
+use Prim.Native.Nat.{ℕ}
 use mathlib.Core.Path.{◌≡◌, sym, ap}
 use mathlib.Core.List.{List}
 use lib.ListN.{length, replicate, length-replicate}
-use Rattle.laws.specs.Outcome.{accepted, refused}
-use Rattle.run_log.specs.Log.{log_of, row_count}
+use Rattle.run_log.specs.Log.{log_of}
 use Rattle.pareto.specs.Call.{Call, Leaves}
 use Rattle.pareto.specs.Laws.Call.{accepted_leaves, leaves_told, accepted_counts, refused_counts}
 use Rattle.window.specs.Engine.{window_call, outcome_of}
 use Rattle.window.specs.declared.WindowAnswer.{WindowAnswer}
-use Rattle.window.specs.declared.WindowAnswer.TheVariants.{Compared, Refused}
 use Rattle.selection.specs.Laws.Engines.{window_few, own_work}
 use Rattle.selection.proofs.by_window.Goals as goal
 
@@ -31,7 +28,7 @@ count_marked-requires c =
 pub returns-in-Compared : goal.returns-in-Compared
 returns-in-Compared c =
     accepted_counts
-        (window_call c.args.list (log_of c.args.log.now) (length c.args.marks.now) 4096 c.args.w) c.args.marks.now _ c.count_marked.result c.run.new.marks
+    (window_call c.args.list (log_of c.args.log.now) (length c.args.marks.now) 4096 c.args.w) c.args.marks.now _ c.count_marked.result c.run.new.marks
     (told _ c.args.marks.now c.run.new.marks _ _ c.in-Compared.is (own_work _ _ c.args.marks.now c.run.new.marks _ _ c.args.w zeros c.run.ensures.leaves))
     c.count_marked.ensures
 
