@@ -58,12 +58,12 @@ pub examples : (report_of (harbour_with 1000) ≡ printed) × (report_of (harbou
     × (report_of [] ≡ letters "refused 1\n")
 unfolding report_of text_of lines_text refused_text head_text fields_text line_text decimal_by decimal sign signed
     either_refusal lattice_tops lattice_row lattice_rows lattice_refusal checked_refusal rows_refusal log_refusal
-        node_count
+    node_count
     node_id levels_of held dominated_node reached edges_from edges crossed_at crossings none_above some_below dominates
     competes competing vector_at row_dominates is_best best_matches read_of values_from values_of finish end_refusal
-        records
+    records
     steps step take_record with_record record_refusal ints_at word_at int_at word_bytes kind_of kinds ends_layered
-        out_of_place
+    out_of_place
     figures_refusal constructor_of column_refusal preference_refusal named_refusal list_refusal layer_of level_at max_at
     value_refusal level_refusal side_at side_by side_of parts_of tops_of levels max_levels row_refusal
     distance inside max_level sound constructor_refusal
