@@ -22,6 +22,7 @@ fn signed(selection: Selection) -> i32
 }
 
 // The shortlist of a stream, by the lattice engine within a budget of crossings.
+#[tactic(auto, using(crate::proofs::Flat::reading))]
 pub fn shortlist_lattice(stream: &[u8], marks: &mut [u8], budget: u32) -> i32
     ensures { Leaves (flat_lattice_call stream.now (length marks.old) budget)
         marks.old (signed_outcome result) marks.new }
@@ -36,6 +37,7 @@ pub fn shortlist_lattice(stream: &[u8], marks: &mut [u8], budget: u32) -> i32
 }
 
 // The shortlist of a stream, by the window engine with a window of w entries.
+#[tactic(auto, using(crate::proofs::Flat::reading))]
 pub fn shortlist_window(stream: &[u8], marks: &mut [u8], w: u32) -> i32
     ensures { Leaves (flat_window_call stream.now (length marks.old) w)
         marks.old (signed_outcome result) marks.new }

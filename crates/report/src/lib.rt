@@ -29,6 +29,7 @@ fn put_selected(out: &mut [u8], list: PreferenceList, log: &[i32]) -> usize
 }
 
 // The report on a stream.
+#[tactic(auto, using(crate::proofs::Unread::unread))]
 pub fn report(stream: &[u8], out: &mut [u8]) -> usize
     ensures { Reported out.old out.new result (report_of stream.now) }
 {

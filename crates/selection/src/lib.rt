@@ -67,6 +67,7 @@ pub fn by_window(list: PreferenceList, log: &[i32], marks: &mut [u8], w: u32) ->
 }
 
 // By the lattice engine, or by the window engine where the lattice is too large.
+#[tactic(auto, using(crate::proofs::Engines::either))]
 pub fn by_either(list: PreferenceList, log: &[i32], marks: &mut [u8]) -> Selection
     ensures { Leaves (either_call list (log_of log.now) (length marks.old))
         marks.old (outcome_of result) marks.new }

@@ -33,6 +33,7 @@ fn print_selected(list: PreferenceList, log: &[i32], out: &mut [u8]) -> SheetAns
 }
 
 // The sheet of a stream.
+#[tactic(auto, using(crate::proofs::Unread::unread))]
 pub fn print(stream: &[u8], out: &mut [u8]) -> SheetAnswer
     ensures { SheetLeft (stream_refusal stream.now (length out.old))
         (stream_sheet stream.now) out.old (outcome_of result) out.new }

@@ -1,103 +1,11 @@
 use borrow.Author.Rules.{rules}
-use native.Mathlib.Omega.{arith}
-use Prim.Native.Nat.{ℕ, ◌*◌, ◌≤◌, ◌-◌}
-use mathlib.Core.Path.{◌≡◌, sym, ap, ◌∙◌}
-use mathlib.Core.List.{List}
-use lib.IntN.{ℤ}
-use lib.ListN.{length, take}
-use Rattle.arith.specs.Laws.Local.{num}
-use Rattle.laws.specs.Outcome.{refused}
-use Rattle.run_log.specs.Log.{Log, log_of}
-use Rattle.preference.specs.declared.PreferenceList.{PreferenceList}
-use Rattle.pareto.specs.Call.{Call, counting, Leaves}
-use Rattle.pareto.specs.Laws.Call.{never_zero, leaves_told}
-use Rattle.window.specs.Engine.{window_call}
+use Rattle.pareto.specs.Laws.Call.{never_zero}
 use Rattle.selection.specs.Selection.{outcome_of}
-use Rattle.selection.specs.Laws.Stream.{few_numbers, rows_fit, rows_long, unread_leaves, read_leaves}
-use Rattle.console.specs.Flat.{signed_outcome, flat_window_call}
+use Rattle.console.proofs.Flat.{by_window}
 use Rattle.console.proofs.shortlist_window.Goals as goal
 
-pub signed-requires : goal.signed-requires
-signed-requires c =
-    let stream : List ℕ =
-    c.args.stream.now in
-    let marks : List ℕ =
-    c.args.marks.now in
-    let filled : List ℤ =
-    c.read-found.new.log in
-    let due : PreferenceList → Log → Call =
-    λ l. λ log. counting (window_call l log (length marks) 4096 c.args.w) in
-    let unread : (c.read-found.result.refusal ≡ 0 → ⊥)
-    → Leaves (flat_window_call stream (length marks) c.args.w) marks (refused c.read-found.result.refusal) marks =
-    unread_leaves stream c.read-found.result filled c.read-found.ensures.0 c.read-found.ensures.1 due marks in
-    never_zero (flat_window_call stream (length marks) c.args.w) marks _ marks (unread c.if-found-ne0.true)
-
-pub returns-then-found-ne0 : goal.returns-then-found-ne0
-returns-then-found-ne0 c =
-    let stream : List ℕ =
-    c.args.stream.now in
-    let marks : List ℕ =
-    c.args.marks.now in
-    let filled : List ℤ =
-    c.read-found.new.log in
-    let due : PreferenceList → Log → Call =
-    λ l. λ log. counting (window_call l log (length marks) 4096 c.args.w) in
-    let unread : (c.read-found.result.refusal ≡ 0 → ⊥)
-    → Leaves (flat_window_call stream (length marks) c.args.w) marks (refused c.read-found.result.refusal) marks =
-    unread_leaves stream c.read-found.result filled c.read-found.ensures.0 c.read-found.ensures.1 due marks in
-    leaves_told (flat_window_call stream (length marks) c.args.w) marks _ _ marks
-    (ap signed_outcome (num c.signed.result c.signed.type_inv) ∙ c.signed.ensures) (unread c.if-found-ne0.true)
-
-pub overflow_mul-end : goal.overflow_mul-end
-overflow_mul-end c =
-    let stream : List ℕ =
-    c.args.stream.now in
-    let filled : List ℤ =
-    c.read-found.new.log in
-    let few : (z : c.read-found.result.refusal ≡ 0) → 8 * c.read-found.result.rows ≤ 8192 =
-    λ z. few_numbers stream c.read-found.result filled c.read-found.ensures.0 c.read-found.ensures.1 z in
-    omega (arith, few c.if-found-ne0.false)
-
-pub slice_bounds-log-end : goal.slice_bounds-log-end
-slice_bounds-log-end c =
-    let stream : List ℕ =
-    c.args.stream.now in
-    let filled : List ℤ =
-    c.read-found.new.log in
-    let fits : (z : c.read-found.result.refusal ≡ 0) → 8 * c.read-found.result.rows ≤ length filled =
-    λ z. rows_fit stream c.read-found.result filled c.read-found.ensures.0 c.read-found.ensures.1 z in
-    fits c.if-found-ne0.false
-
-pub slice_bounds-by_window-end : goal.slice_bounds-by_window-end
-slice_bounds-by_window-end c =
-    let stream : List ℕ =
-    c.args.stream.now in
-    let filled : List ℤ =
-    c.read-found.new.log in
-    let long : (z : c.read-found.result.refusal ≡ 0) → length (take (8 * c.read-found.result.rows) filled) ≡ 8 * c.read-found.result.rows =
-    λ z. rows_long stream c.read-found.result filled c.read-found.ensures.0 c.read-found.ensures.1 z in
-    sym (long c.if-found-ne0.false)
-
 pub signed-requires-2 : goal.signed-requires-2
-signed-requires-2 c =
-    let marks : List ℕ =
-    c.args.marks.now in
-    let filled : List ℤ =
-    c.read-found.new.log in
-    let due : PreferenceList → Log → Call =
-    λ l. λ log. counting (window_call l log (length marks) 4096 c.args.w) in
-    never_zero (due c.read-found.result.list (log_of (take (8 * c.read-found.result.rows) filled))) marks (outcome_of c.by_window.result) _ c.by_window.ensures
+signed-requires-2 c = never_zero _ c.args.marks.now (outcome_of c.by_window.result) _ c.by_window.ensures
 
 pub returns : goal.returns
-returns c =
-    let stream : List ℕ =
-    c.args.stream.now in
-    let marks : List ℕ =
-    c.args.marks.now in
-    let filled : List ℤ =
-    c.read-found.new.log in
-    let due : PreferenceList → Log → Call =
-    λ l. λ log. counting (window_call l log (length marks) 4096 c.args.w) in
-    read_leaves stream c.read-found.result filled c.read-found.ensures.0 c.read-found.ensures.1 due marks _ _ c.if-found-ne0.false
-    (leaves_told (due c.read-found.result.list (log_of (take (8 * c.read-found.result.rows) filled))) marks (outcome_of c.by_window.result) _ _
-    (ap signed_outcome (num c.signed-2.result c.signed-2.type_inv) ∙ c.signed-2.ensures) c.by_window.ensures)
+returns c = search (rules, by_window)

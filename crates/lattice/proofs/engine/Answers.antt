@@ -3,7 +3,6 @@ use mathlib.Core.Bool.{Bool}
 use mathlib.Core.List.{List, ◌++◌}
 use Prim.Native.Nat.{ℕ, ◌≤◌, min}
 use native.Mathlib.Omega.{arith}
-use borrow.Author.Rules.{rules}
 use borrow.Author.Tests.{not-true, not-false}
 use lib.ListN.{length, take, drop, replicate, length-append}
 use lib.Seq.{length-take-le, take_at}
@@ -18,9 +17,9 @@ use Rattle.lattice_marks.specs.Settled.{Settles}
 use Rattle.lattice.specs.declared.LatticeAnswer.{LatticeAnswer}
 use Rattle.lattice.specs.declared.LatticeAnswer.TheVariants.{Crossed, Refused}
 use Rattle.lattice.specs.Walked.{lattice_tops}
-use Rattle.lattice.specs.Ids.{Weighed, row_nodes}
+use Rattle.lattice.specs.Ids.{row_nodes}
 use Rattle.lattice.specs.Laws.Walked.{tops_are}
-use Rattle.lattice.specs.Laws.Ends.{Passed, passed, Ends, too_many, too_short, spent, through}
+use Rattle.lattice.specs.Laws.Ends.{Passed, passed, Ends, too_short, spent, through}
 use Rattle.lattice.proofs.engine.Goals as goal
 
 abbrev zeros : List ℕ
@@ -74,20 +73,12 @@ fill_weights-count-requires c =
           front c.parts-parts.result (few c.args.list c.parts-parts.result c.parts-parts.ensures) ∙ c.parts-parts.ensures ∙ ap length (sym (tops_are _));
     }
 
-pub returns-then-count-gt-MAX_NODES : goal.returns-then-count-gt-MAX_NODES
-returns-then-count-gt-MAX_NODES c =
-    let a = c.args in
-    let e =
-    too_many a.list (log_of a.log.now) a.marks.now a.nodes.now a.budget c.requires
-    (omega (arith, c.fill_weights-count.ensures.counted, c.if-count-gt-MAX_NODES.true)) in
-    record { leaves = e.0; nodes_after = e.1 }
-
 pub returns-then-nodes-count : goal.returns-then-nodes-count
 returns-then-nodes-count c =
     let a = c.args in
-    let n = (count_is c.args.list _ c.fill_weights-count.ensures.counted c.if-count-gt-MAX_NODES.false) in
+    let n = count_is c.args.list c.fill_weights-count.result c.fill_weights-count.ensures.counted (omega arith) in
     let e =
-    too_short a.list (log_of a.log.now) a.marks.now a.nodes.now a.budget c.requires (omega (arith, n, c.if-count-gt-MAX_NODES.false))
+    too_short a.list (log_of a.log.now) a.marks.now a.nodes.now a.budget c.requires (omega (arith, n))
     (rw n at c.if-nodes-count.true) in
     record { leaves = e.0; nodes_after = e.1 }
 
@@ -117,16 +108,16 @@ slice_bounds-walk_rows-end-5 c = sym (length-take-le _ _ c.if-nodes-count.false)
 
 pub walk_rows-progress-requires : goal.walk_rows-progress-requires
 walk_rows-progress-requires c =
-    let pass = (checks c.args.list (log_of c.args.log.now) (length c.args.marks.now) c.requires) in
-    let n = (count_is c.args.list _ c.fill_weights-count.ensures.counted c.if-count-gt-MAX_NODES.false) in
+    let pass = checks c.args.list (log_of c.args.log.now) (length c.args.marks.now) c.requires in
+    let n = count_is c.args.list c.fill_weights-count.result c.fill_weights-count.ensures.counted (omega arith) in
     record {
       weighed =
           rw (weights_front c.parts-parts.result c.fill_weights-count.new.weights
           (c.fill_weights-count.auto.weights ∙ front c.parts-parts.result (few c.args.list c.parts-parts.result c.parts-parts.ensures)))
           (record {
             list_accepted = pass.list_accepted;
-            few = omega (arith, n, c.if-count-gt-MAX_NODES.false);
-            weights_are = c.fill_weights-count.ensures.weights_are c.if-count-gt-MAX_NODES.false;
+            few = omega (arith, n);
+            weights_are = c.fill_weights-count.ensures.weights_are (omega arith);
           });
       log_value = pass.log_accepted;
       log_value_2 = pass.rows_accepted;
@@ -139,28 +130,26 @@ walk_rows-progress-requires c =
 
 pub returns-then-not-progress : goal.returns-then-not-progress
 returns-then-not-progress c =
-    let n = (count_is c.args.list _ c.fill_weights-count.ensures.counted c.if-count-gt-MAX_NODES.false) in
+    let n = count_is c.args.list c.fill_weights-count.result c.fill_weights-count.ensures.counted (omega arith) in
     let e =
     ends c.args.list (log_of c.args.log.now) c.args.marks.now c.args.nodes.now c.args.budget
-    (Refused 11) c.walk_rows-progress.new.marks c.walk_rows-progress.new.nodes _ _ c.row_count-rows.ensures
-    (count_is c.args.list _ c.fill_weights-count.ensures.counted c.if-count-gt-MAX_NODES.false)
-    (spent c.args.list (log_of c.args.log.now) c.args.marks.now c.args.nodes.now c.args.budget c.requires (omega (arith, n, c.if-count-gt-MAX_NODES.false))
-    (rw (count_is c.args.list _ c.fill_weights-count.ensures.counted c.if-count-gt-MAX_NODES.false) at c.if-nodes-count.false) _ _ _ _
-    (settled c.args.list
-    (log_of c.args.log.now) c.args.budget c.row_count-rows.result c.args.marks.now _ _ _ _ c.row_count-rows.ensures c.walk_rows-progress.ensures)
+    (Refused 11) c.walk_rows-progress.new.marks c.walk_rows-progress.new.nodes _ _ c.row_count-rows.ensures n
+    (spent c.args.list (log_of c.args.log.now) c.args.marks.now c.args.nodes.now c.args.budget c.requires (omega (arith, n))
+    (rw n at c.if-nodes-count.false) _ _ _ _
+    (settled c.args.list (log_of c.args.log.now) c.args.budget c.row_count-rows.result c.args.marks.now _ _ _ _ c.row_count-rows.ensures
+    c.walk_rows-progress.ensures)
     (not-true _ c.if-not-progress.true)) in
     record { leaves = e.0; nodes_after = e.1 }
 
 pub returns : goal.returns
 returns c =
-    let n = (count_is c.args.list _ c.fill_weights-count.ensures.counted c.if-count-gt-MAX_NODES.false) in
+    let n = count_is c.args.list c.fill_weights-count.result c.fill_weights-count.ensures.counted (omega arith) in
     let e =
     ends c.args.list (log_of c.args.log.now) c.args.marks.now c.args.nodes.now c.args.budget
-    (Crossed c.walk_rows-progress.result.made) c.walk_rows-progress.new.marks c.walk_rows-progress.new.nodes _ _ c.row_count-rows.ensures
-    (count_is c.args.list _ c.fill_weights-count.ensures.counted c.if-count-gt-MAX_NODES.false)
-    (through c.args.list (log_of c.args.log.now) c.args.marks.now c.args.nodes.now c.args.budget c.requires (omega (arith, n, c.if-count-gt-MAX_NODES.false))
-    (rw (count_is c.args.list _ c.fill_weights-count.ensures.counted c.if-count-gt-MAX_NODES.false) at c.if-nodes-count.false) _ _ _ _
-    (settled c.args.list
-    (log_of c.args.log.now) c.args.budget c.row_count-rows.result c.args.marks.now _ _ _ _ c.row_count-rows.ensures c.walk_rows-progress.ensures)
+    (Crossed c.walk_rows-progress.result.made) c.walk_rows-progress.new.marks c.walk_rows-progress.new.nodes _ _ c.row_count-rows.ensures n
+    (through c.args.list (log_of c.args.log.now) c.args.marks.now c.args.nodes.now c.args.budget c.requires (omega (arith, n))
+    (rw n at c.if-nodes-count.false) _ _ _ _
+    (settled c.args.list (log_of c.args.log.now) c.args.budget c.row_count-rows.result c.args.marks.now _ _ _ _ c.row_count-rows.ensures
+    c.walk_rows-progress.ensures)
     (not-false _ c.if-not-progress.false)) in
     record { leaves = e.0; nodes_after = e.1 }

@@ -1,16 +1,14 @@
 use mathlib.Core.Path.{◌≡◌, sym, ◌∙◌}
-use mathlib.Core.List.{List, [], ◌∷◌, ◌++◌}
+use mathlib.Core.List.{List, [], ◌∷◌}
 use Prim.Native.Nat.{ℕ, ◌≤◌}
 use native.Mathlib.Omega.{arith}
-use lib.ListN.{length, take, drop, replicate}
 use lib.Seq.{length-take-le}
-use borrow.Author.Rules.{rules}
 use Rattle.laws.specs.Lists.{joined}
 use Rattle.run_log.specs.Log.{Log, log_of, row_count, log_refusal}
 use Rattle.run_log.specs.Laws.Log.{accepted}
 use Rattle.preference.specs.declared.PreferenceList.{PreferenceList}
 use lib.IntN.{ℤ}
-use Rattle.level_table.specs.Table.{table_of, table_length}
+use Rattle.level_table.specs.Table.{table_length}
 use Rattle.level_table.specs.Laws.Table.{table_fits, handed_long, handed_fits, table_handed}
 use Rattle.lattice.specs.Ids.{id_by}
 use Rattle.lattice.specs.Laws.Ids.{rows_tabled, rows_numbered}

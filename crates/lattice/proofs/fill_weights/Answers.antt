@@ -2,7 +2,6 @@ use mathlib.Core.Path.{◌≡◌, sym, ◌∙◌}
 use Prim.Native.Nat.{◌-◌, ◌<◌, ◌≤◌}
 use native.Mathlib.Nat.{lt_of_lt_of_le}
 use native.Mathlib.Omega.{arith}
-use borrow.Author.Rules.{rules}
 use lib.ListN.{get_or, length-set}
 use Rattle.preference.specs.Parts.{max_levels}
 use Rattle.preference.specs.Laws.Parts.{max_levels_small, at_most_at}
@@ -10,7 +9,7 @@ use Rattle.lattice_nodes.specs.Lattice.{node_count}
 use Rattle.lattice_nodes.specs.Laws.Steps.{drop_nodes}
 use Rattle.lattice.specs.Walked.{lattice_tops}
 use Rattle.lattice.specs.Laws.Walked.{tops_are}
-use Rattle.lattice.proofs.Filled.{Filled, begin, next, more, product}
+use Rattle.lattice.proofs.Filled.{begin, next, more, product}
 use Rattle.lattice.proofs.fill_weights.Goals as goal
 
 -- the greatest level at hand

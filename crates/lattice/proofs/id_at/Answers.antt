@@ -1,6 +1,4 @@
 use mathlib.Core.Path.{sym, ◌∙◌}
-use borrow.Author.Rules.{rules}
-use borrow.Author.Tests.{not-true, not-false}
 use Rattle.lattice.specs.Ids.{id_by}
 use Rattle.lattice.proofs.id_at.Goals as goal
 

@@ -1,9 +1,8 @@
 use mathlib.Core.Path.{refl}
-use Prim.Native.Nat.{◌<◌, ◌-◌}
+use Prim.Native.Nat.{◌<◌}
 use native.Mathlib.Omega.{arith}
 use lib.ListN.{length}
-use borrow.Author.Rules.{rules}
-use Rattle.laws.specs.Laws.Written.{Written, none_written, one_written, all_written}
+use Rattle.laws.specs.Laws.Written.{none_written, one_written, all_written}
 use Rattle.run_log.specs.Log.{log_of}
 use Rattle.lattice.specs.Ids.{id_by}
 use Rattle.lattice.proofs.id_rows.Goals as goal

@@ -1,9 +1,6 @@
-use mathlib.Core.Path.{refl}
-use Prim.Native.Nat.{◌<◌, ◌-◌}
-use native.Mathlib.Omega.{arith}
+use Prim.Native.Nat.{◌-◌}
 use lib.ListN.{length}
-use borrow.Author.Rules.{rules}
-use Rattle.laws.specs.Laws.Written.{Written, none_written, one_written, all_written}
+use Rattle.laws.specs.Laws.Written.{Written}
 use Rattle.run_log.specs.Log.{log_of}
 use Rattle.lattice.specs.Ids.{id_by}
 use Rattle.lattice.proofs.id_rows.Given as goal

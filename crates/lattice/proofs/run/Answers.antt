@@ -1,5 +1,4 @@
 use mathlib.Core.Path.{◌≡◌, sym, ap, ◌∙◌}
-use borrow.Author.Rules.{rules}
 use lib.ListN.{length}
 use Rattle.laws.specs.Laws.Checks.{then_first}
 use Rattle.run_log.specs.Log.{Log, log_of, marks_refusal}

@@ -5,7 +5,6 @@ use lib.IntN.{ℤ}
 use Rattle.run_log.specs.Log.{row_count, log_refusal}
 use Prim.Native.Nat.{ℕ, ◌≤◌}
 use native.Mathlib.Omega.{arith}
-use borrow.Author.Rules.{rules}
 use lib.ListN.{length, take, drop, replicate, length-append, length-replicate}
 use lib.Seq.{length-take-le, take_at}
 use Rattle.run_log.specs.Laws.Log.{accepted}

@@ -1,12 +1,7 @@
-use borrow.Author.Rules.{rules}
-use native.Mathlib.Omega.{arith}
-use Prim.Native.Nat.{ℕ, ◌≤◌, ◌-◌, ◌+◌}
+use Prim.Native.Nat.{◌≤◌, ◌-◌}
 use mathlib.Core.Path.{◌≡◌}
 use lib.ListN.{length}
 use Rattle.run_log.specs.Log.{row_count, marked_rows}
-use Rattle.laws.specs.Lists.{joined}
-use Rattle.selection.specs.Laws.Counted.{count_more, count_few}
-use mathlib.Core.Path.{ap, ◌∙◌}
 use Rattle.selection.proofs.count_marked.Given as goal
 
 abbrev pub invariant-loop-r : goal.invariant-loop-r
