@@ -1,4 +1,3 @@
-use borrow.Author.Rules.{rules}
 use mathlib.Core.Path.{sym, ap, subst, ◌∙◌}
 use mathlib.Core.List.{List}
 use Prim.Native.Nat.{ℕ}
@@ -13,6 +12,9 @@ slice_bounds-report-end c = sym (length-take-le c.args.n c.args.buffer.now c.req
 
 pub returns : goal.returns
 returns c =
-    record { reports_front = λ stream e.
+    record {
+      reports_front = λ stream e.
           subst (λ (text : List ℕ). Reported c.args.out.now c.report.new.out c.report.result text)
-          (ap report_of e ∙ report_cut (length c.args.buffer.now) stream c.requires.0) c.report.ensures; upper_bound = c.report.ensures.short }
+          (ap report_of e ∙ report_cut (length c.args.buffer.now) stream c.requires.0) c.report.ensures;
+      upper_bound = c.report.ensures.short;
+    }
