@@ -1,4 +1,3 @@
-use borrow.Author.Rules.{rules}
 use mathlib.Core.Path.{sym, ap, subst, ◌∙◌}
 use mathlib.Core.List.{List}
 use Prim.Native.Nat.{ℕ}
@@ -14,9 +13,12 @@ slice_bounds-report-end c = sym (length-take-le c.args.n c.args.buffer.now c.req
 
 pub returns : goal.returns
 returns c =
-    let front = take c.args.n c.args.buffer.now in record { sheet_front = λ stream e.
+    let front = take c.args.n c.args.buffer.now in record {
+      sheet_front = λ stream e.
           subst (λ (text : List ℕ). Puts c.args.out.now c.report.new.out 0 c.report.result text)
           (text_for_all front (length c.args.out.now) c.requires.2
           ∙ ap sheet_report e
           ∙ report_cut (length c.args.buffer.now) stream c.requires.0)
-          c.report.ensures.puts; upper_bound = c.report.ensures.upper_bound }
+          c.report.ensures.puts;
+      upper_bound = c.report.ensures.upper_bound;
+    }
