@@ -1,5 +1,4 @@
 use borrow.Author.Rules.{rules}
-use Prim.Native.Nat.{◌-◌}
 use mathlib.Core.Path.{sym}
 use lib.Seq.{length-take-le}
 use Rattle.shortlist.proofs.main.Goals as goal
