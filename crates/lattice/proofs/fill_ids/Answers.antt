@@ -33,8 +33,7 @@ slice_bounds-fill_table-end c = sym (handed_long _ 8192 c.if-length-le-MAX_VALUE
 
 pub slice_bounds-plane-end-then-length-le-MAX_VALUES : goal.slice_bounds-plane-end-then-length-le-MAX_VALUES
 slice_bounds-plane-end-then-length-le-MAX_VALUES c =
-    handed_fits c.args.list c.args.log.now 8192 c.table_length-length.result c.table_length-length.ensures c.if-length-le-MAX_VALUES.true _
-    c.fill_table.ensures
+    handed_fits c.args.list c.args.log.now 8192 c.table_length-length.result c.table_length-length.ensures c.if-length-le-MAX_VALUES.true _ c.fill_table.ensures
 
 pub slice_bounds-id_rows-end : goal.slice_bounds-id_rows-end
 slice_bounds-id_rows-end c =

@@ -54,9 +54,7 @@ fill_ids-requires c =
       weighed = c.requires.weighed;
       log_value = c.requires.log_value;
       log_value_2 = c.requires.log_value_2;
-      ids_len =
-          front (length c.args.marks.now) (few c.args.log.now (length c.args.marks.now) c.requires.log_value c.requires.marks_len)
-          ∙ c.requires.marks_len;
+      ids_len = front (length c.args.marks.now) (few c.args.log.now (length c.args.marks.now) c.requires.log_value c.requires.marks_len) ∙ c.requires.marks_len;
     }
 
 pub slice_bounds-ids-end-2 : goal.slice_bounds-ids-end-2
