@@ -1,4 +1,4 @@
--- Two i32 widened to i64: a local's bits read back as the number, and the difference fits. Two i32 are the same exactly when their bits are.
+-- Two i32 widened to i64: a local's bits read back as the number, and the difference fits.
 use mathlib.Core.Path.{◌≡◌, refl, sym, ap, ◌∙◌, subst}
 use Prim.Native.Nat.{ℕ, zero, suc, ◌+◌, ◌-◌, ◌<◌, ◌≤◌, ◌^◌}
 use native.Mathlib.Omega.{arith}
@@ -88,14 +88,3 @@ module _ (a b : ℤ) (ha : SFits w32 a) (hb : SFits w32 b) where
 
   pub diff_cast : lt_z (diff a b) (pos 0) ≡ false → T (non_neg (diff a b)) × Fits w64 (nat_abs (diff a b))
   diff_cast e = (not_neg (diff a b) e, subst (λ (z : ℤ). Fits w64 (nat_abs z)) (sym (diff_is a b ha hb)) (Fits-nat_abs {w = w64} tt (diff_fits a b ha hb)))
-
-flip : (a b : ℕ) → a < 2147483648 → b < 2147483648 → (t : Bool) → eqb a b ≡ t → eqb (2 ^ 32 - suc a) (2 ^ 32 - suc b) ≡ t
-flip a b ha hb true e = let q : a ≡ b = eqb-true a b e in eq-eqb (2 ^ 32 - suc a) (2 ^ 32 - suc b) (omega arith)
-flip a b ha hb false e = ne_eqb (2 ^ 32 - suc a) (2 ^ 32 - suc b) (λ q. eqb-false a b e (omega arith))
-
--- Two numbers are the same exactly when their bits are.
-pub same_is : (a b : ℤ) → mag a < 2147483648 → mag b < 2147483648 → eqb (of_z w32 a) (of_z w32 b) ≡ eq_z a b
-same_is (pos a) (pos b) ha hb = refl
-same_is (pos a) (negsuc b) ha hb = ne_eqb a (2 ^ 32 - suc b) (λ e. omega arith)
-same_is (negsuc a) (pos b) ha hb = ne_eqb (2 ^ 32 - suc a) b (λ e. omega arith)
-same_is (negsuc a) (negsuc b) ha hb = flip a b ha hb (eqb a b) refl

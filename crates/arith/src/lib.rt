@@ -1,10 +1,9 @@
 // Exact arithmetic on values of 32 bits: how far one lies above another, and division rounded up.
 #![tactic(auto)]
 
-ghost use Rattle.std.specs.Prelude.{◌≡◌, ◌+◌, ◌-◌, ◌<◌};
-ghost use Rattle.std.specs.Int.Signed.{le_z};
+ghost use Rattle.std.specs.Prelude.{◌≡◌, ◌+◌, ◌<◌};
 ghost use Rattle.limits.specs.Limits.{u32_end};
-ghost use Rattle.arith.specs.Gap.{gap, eq_z};
+ghost use Rattle.arith.specs.Gap.{gap};
 ghost use Rattle.arith.specs.Ceil.{ceil_div};
 
 // How far a lies above b, and 0 where it does not. The difference of two i32 can need 33 bits, so it is taken in i64.
@@ -31,38 +30,5 @@ pub fn outside(low: i32, up: i32, v: i32) -> u32
 pub fn ceil_div(d: u32, step: u32) -> u32
     ensures { result ≡ ceil_div d step }
 {
-    if step == 0 {
-        return 0;
-    }
-    let quotient = d / step;
-    if d % step == 0 {
-        return quotient;
-    }
-    quotient + 1
-}
-
-pub fn at_most(a: i32, b: i32) -> bool
-    ensures { result ≡ le_z a b }
-{
-    a <= b
-}
-
-pub fn same(a: i32, b: i32) -> bool
-    ensures { result ≡ eq_z a b }
-{
-    a == b
-}
-
-// A byte copied out of a struct is widened here, where its range is known.
-pub fn wide(x: u8) -> usize
-    ensures { result ≡ x }
-{
-    x as usize
-}
-
-// The place before one; 0 of 0.
-pub fn place_before(k: usize) -> usize
-    ensures { result ≡ k - 1 }
-{
-    if k == 0 { 0 } else { k - 1 }
+    if step == 0 { 0 } else { d.div_ceil(step) }
 }

@@ -3,50 +3,52 @@
 #![tactic(auto)]
 
 ghost use Rattle.std.specs.Prelude.{◌≡◌, length};
-ghost use Rattle.laws.specs.Outcome.{refused};
+ghost use Rattle.refusal.specs.Refusal.{outcome_of};
 ghost use Rattle.pareto.specs.Call.{Leaves};
-ghost use Rattle.selection.specs.Selection.{outcome_of};
 ghost use Rattle.console.specs.Flat.{signed_outcome, flat_lattice_call, flat_window_call};
 
-use selection::Selection;
+use refusal::Refusal;
 
 // Tells a refusal by its sign.
-fn signed(selection: Selection) -> i32
-    requires { outcome_of selection ≡ refused 0 → ⊥ }
-    ensures { signed_outcome result ≡ outcome_of selection }
+fn signed(answer: Result<u16, Refusal>) -> i32
+    ensures { signed_outcome result ≡ outcome_of answer }
 {
-    match selection {
-        Selection::Best(n) => n as i32,
-        Selection::Refused(k) => 0 - (k as i32),
+    match answer {
+        Ok(best) => i32::from(best),
+        Err(refusal) => -i32::from(u8::from(refusal)),
     }
 }
 
 // The shortlist of a stream, by the lattice engine within a budget of crossings.
-#[tactic(auto, using(crate::proofs::Flat::reading))]
+fn by_lattice(stream: &[u8], marks: &mut [u8], budget: u32) -> Result<u16, Refusal>
+    ensures { Leaves (flat_lattice_call stream.now (length marks.old) budget)
+        marks.old (outcome_of result) marks.new }
+{
+    let mut numbers = [0; limits::MAX_VALUES];
+    let held = selection::read(stream, &mut numbers)?;
+    selection::by_lattice(held.list, held.log, marks, budget)
+}
+
+// The shortlist of a stream, by the window engine with a window of w entries.
+fn by_window(stream: &[u8], marks: &mut [u8], w: u32) -> Result<u16, Refusal>
+    ensures { Leaves (flat_window_call stream.now (length marks.old) w)
+        marks.old (outcome_of result) marks.new }
+{
+    let mut numbers = [0; limits::MAX_VALUES];
+    let found = selection::read(stream, &mut numbers)?;
+    selection::by_window(found.list, found.log, marks, w)
+}
+
 pub fn shortlist_lattice(stream: &[u8], marks: &mut [u8], budget: u32) -> i32
     ensures { Leaves (flat_lattice_call stream.now (length marks.old) budget)
         marks.old (signed_outcome result) marks.new }
 {
-    let mut log = [0i32; limits::MAX_VALUES];
-    let read = stream_reader::read(stream, &mut log);
-    if read.refusal != 0 {
-        return signed(Selection::Refused(read.refusal));
-    }
-    let end = limits::COLUMNS * read.rows;
-    signed(selection::by_lattice(read.list, &log[..end], marks, budget))
+    signed(by_lattice(stream, marks, budget))
 }
 
-// The shortlist of a stream, by the window engine with a window of w entries.
-#[tactic(auto, using(crate::proofs::Flat::reading))]
 pub fn shortlist_window(stream: &[u8], marks: &mut [u8], w: u32) -> i32
     ensures { Leaves (flat_window_call stream.now (length marks.old) w)
         marks.old (signed_outcome result) marks.new }
 {
-    let mut log = [0i32; limits::MAX_VALUES];
-    let found = stream_reader::read(stream, &mut log);
-    if found.refusal != 0 {
-        return signed(Selection::Refused(found.refusal));
-    }
-    let end = limits::COLUMNS * found.rows;
-    signed(selection::by_window(found.list, &log[..end], marks, w))
+    signed(by_window(stream, marks, w))
 }

@@ -3,17 +3,15 @@
 // and the writer takes them.
 #![tactic(auto)]
 
-ghost use Rattle.std.specs.Prelude.{◌≡◌, ◌+◌, ◌-◌, max, get_or};
+ghost use Rattle.std.specs.Prelude.{◌≡◌, ◌+◌, get_or};
 ghost use Rattle.arith.specs.Gap.{gap};
 ghost use Rattle.arith.specs.Ceil.{ceil_div};
+ghost use Rattle.refusal.specs.Refusal.{refusal_of};
 ghost use Rattle.constructor.specs.Level.{scale_of, target_of, layering_of, numeric_level, max_level, inside};
 ghost use Rattle.constructor.specs.Side.{side_by, side_of, is_pair, pair_of, part_in};
 ghost use Rattle.constructor.specs.Valid.{sound, constructor_refusal, layer_refusal};
 
-// The least and the greatest number of 32 bits.
-const LEAST: i32 = -2147483648;
-
-const GREATEST: i32 = 2147483647;
+use refusal::Refusal;
 
 #[derive(Clone, Copy)]
 pub enum Constructor {
@@ -70,341 +68,213 @@ pub struct Target {
 }
 
 // Where a value lies: below the values at distance 0, among them, or above them.
-#[derive(Clone, Copy)]
+#[derive(Clone, Copy, Debug, PartialEq, Eq)]
 pub enum Side {
     Below,
     Inside,
     Above,
 }
 
-// What decides a level: the distance, or the layers of named values.
+// What decides a level: the distance, or the layers of named values. An Option's None would not say that distance does.
 #[derive(Clone, Copy)]
 pub enum Layering {
     Numeric,
     Layers { top: u8, others: u8 },
 }
 
-pub fn scale_of(c: Constructor) -> Scale
-    ensures { result ≡ scale_of c }
-{
-    match c {
-        Constructor::Lowest { lo, hi, step } => Scale {
-            lo: lo,
-            hi: hi,
-            step: step,
-        },
-        Constructor::Highest { lo, hi, step } => Scale {
-            lo: lo,
-            hi: hi,
-            step: step,
-        },
-        Constructor::Around { lo, hi, step, z: _ } => Scale {
-            lo: lo,
-            hi: hi,
-            step: step,
-        },
-        Constructor::Between {
-            lo,
-            hi,
-            step,
-            low: _,
-            up: _,
-        } => Scale {
-            lo: lo,
-            hi: hi,
-            step: step,
-        },
-        Constructor::Layered { top: _, others: _ } => Scale {
-            lo: LEAST,
-            hi: GREATEST,
-            step: 1,
-        },
-        Constructor::BetweenTrivial {
-            lo,
-            hi,
-            step,
-            low: _,
-            up: _,
-        } => Scale {
-            lo: lo,
-            hi: hi,
-            step: step,
-        },
+impl Target {
+    // The level of v by its distance from low..up: one way for all forms, without a match.
+    pub fn level(self, step: u32, v: i32) -> u64
+        ensures { result ≡ ceil_div (gap self.low v + gap v self.up) step }
+    {
+        u64::from(arith::ceil_div(arith::outside(self.low, self.up, v), step))
+    }
+
+    // The side of low..up on which v lies.
+    #[tactic(auto, unfolding(crate::specs::Side::side_by))]
+    pub fn side(self, v: i32) -> Side
+        ensures { result ≡ side_by self.low self.up v }
+    {
+        if v < self.low {
+            Side::Below
+        } else if v <= self.up {
+            Side::Inside
+        } else {
+            Side::Above
+        }
+    }
+
+    // Part `half` of the level of v, where it is a pair, or the level.
+    pub fn part(self, step: u32, pair: bool, half: usize, v: i32) -> u64
+        ensures { result
+            ≡ part_in pair half (ceil_div (gap self.low v + gap v self.up) step) (side_by self.low self.up v) }
+    {
+        part_in(pair, half, self.level(step, v), self.side(v))
     }
 }
 
-pub fn layering_of(c: Constructor) -> Layering
-    ensures { result ≡ layering_of c }
-{
-    match c {
-        Constructor::Lowest {
-            lo: _,
-            hi: _,
-            step: _,
-        } => Layering::Numeric,
-        Constructor::Highest {
-            lo: _,
-            hi: _,
-            step: _,
-        } => Layering::Numeric,
-        Constructor::Around {
-            lo: _,
-            hi: _,
-            step: _,
-            z: _,
-        } => Layering::Numeric,
-        Constructor::Between {
-            lo: _,
-            hi: _,
-            step: _,
-            low: _,
-            up: _,
-        } => Layering::Numeric,
-        Constructor::Layered { top, others } => Layering::Layers {
-            top: top,
-            others: others,
-        },
-        Constructor::BetweenTrivial {
-            lo: _,
-            hi: _,
-            step: _,
-            low: _,
-            up: _,
-        } => Layering::Numeric,
+impl Constructor {
+    pub fn scale(self) -> Scale
+        ensures { result ≡ scale_of self }
+    {
+        match self {
+            Constructor::Lowest { lo, hi, step }
+            | Constructor::Highest { lo, hi, step }
+            | Constructor::Around { lo, hi, step, .. }
+            | Constructor::Between { lo, hi, step, .. }
+            | Constructor::BetweenTrivial { lo, hi, step, .. } => Scale { lo, hi, step },
+            Constructor::Layered { .. } => Scale {
+                lo: i32::MIN,
+                hi: i32::MAX,
+                step: 1,
+            },
+        }
     }
-}
 
-pub fn target_of(c: Constructor) -> Target
-    ensures { result ≡ target_of c }
-{
-    match c {
-        Constructor::Lowest { lo, hi: _, step: _ } => Target { low: LEAST, up: lo },
-        Constructor::Highest { lo: _, hi, step: _ } => Target {
-            low: hi,
-            up: GREATEST,
-        },
-        Constructor::Around {
-            lo: _,
-            hi: _,
-            step: _,
-            z,
-        } => Target { low: z, up: z },
-        Constructor::Between {
-            lo: _,
-            hi: _,
-            step: _,
-            low,
-            up,
-        } => Target { low: low, up: up },
-        Constructor::Layered { top: _, others: _ } => Target {
-            low: LEAST,
-            up: GREATEST,
-        },
-        Constructor::BetweenTrivial {
-            lo: _,
-            hi: _,
-            step: _,
-            low,
-            up,
-        } => Target { low, up },
+    pub fn layering(self) -> Layering
+        ensures { result ≡ layering_of self }
+    {
+        match self {
+            Constructor::Layered { top, others } => Layering::Layers { top, others },
+            _ => Layering::Numeric,
+        }
     }
-}
 
-// The level of v by its distance from low..up: one form for all, without a match.
-pub fn level_outside(low: i32, up: i32, step: u32, v: i32) -> u64
-    ensures { result ≡ ceil_div (gap low v + gap v up) step }
-{
-    arith::ceil_div(arith::outside(low, up, v), step) as u64
-}
-
-// The level of v under a form that goes by distance.
-pub fn level_of(c: Constructor, v: i32) -> u64
-    ensures { result ≡ numeric_level c v }
-{
-    let s = scale_of(c);
-    let step = s.step;
-    let t = target_of(c);
-    let low = t.low;
-    let up = t.up;
-    level_outside(low, up, step, v)
-}
-
-fn larger(a: u64, b: u64) -> u64
-    ensures { result ≡ max a b }
-{
-    if a <= b { b } else { a }
-}
-
-// M: no value of lo..hi lies farther off than both ends, so one of the ends has the greatest level.
-pub fn max_level(c: Constructor) -> u64
-    ensures { result ≡ max_level c }
-{
-    let s = scale_of(c);
-    let lo = s.lo;
-    let hi = s.hi;
-    let y = layering_of(c);
-    match y {
-        Layering::Numeric => larger(level_of(c, lo), level_of(c, hi)),
-        Layering::Layers { top, others: _ } => top as u64,
+    pub fn target(self) -> Target
+        ensures { result ≡ target_of self }
+    {
+        match self {
+            Constructor::Lowest { lo, .. } => Target {
+                low: i32::MIN,
+                up: lo,
+            },
+            Constructor::Highest { hi, .. } => Target {
+                low: hi,
+                up: i32::MAX,
+            },
+            Constructor::Around { z, .. } => Target { low: z, up: z },
+            Constructor::Between { low, up, .. } | Constructor::BetweenTrivial { low, up, .. } => {
+                Target { low, up }
+            }
+            Constructor::Layered { .. } => Target {
+                low: i32::MIN,
+                up: i32::MAX,
+            },
+        }
     }
-}
 
-pub fn is_inside(c: Constructor, v: i32) -> bool
-    ensures { result ≡ inside c v }
-{
-    let s = scale_of(c);
-    let lo = s.lo;
-    let hi = s.hi;
-    arith::at_most(lo, v) & arith::at_most(v, hi)
-}
-
-// No figure of the form is refused by 6.
-fn is_sound(c: Constructor) -> bool
-    ensures { result ≡ sound c }
-{
-    match c {
-        Constructor::Lowest { lo, hi, step } => arith::at_most(lo, hi) & (0 < step),
-        Constructor::Highest { lo, hi, step } => arith::at_most(lo, hi) & (0 < step),
-        Constructor::Around { lo, hi, step, z } => arith::at_most(lo, z)
-            & arith::at_most(z, hi)
-            & (0 < step),
-        Constructor::Between {
-            lo,
-            hi,
-            step,
-            low,
-            up,
-        } => arith::at_most(lo, low)
-            & arith::at_most(low, up)
-            & arith::at_most(up, hi)
-            & (0 < step),
-        Constructor::Layered { top, others } => (0 < top)
-            & (top <= limits::MAX_LAYER)
-            & (others <= top),
-        Constructor::BetweenTrivial {
-            lo,
-            hi,
-            step,
-            low,
-            up,
-        } => arith::at_most(lo, low)
-            & arith::at_most(low, up)
-            & arith::at_most(up, hi)
-            & (0 < step),
+    // The level of v under a form that goes by distance.
+    #[tactic(auto, using(crate::specs::Laws::Target::distance_outside))]
+    pub fn level(self, v: i32) -> u64
+        ensures { result ≡ numeric_level self v }
+    {
+        self.target().level(self.scale().step, v)
     }
-}
 
-// The number that the form is refused by, 6 or 7, or 0.
-pub fn refusal(c: Constructor) -> u8
-    ensures { result ≡ constructor_refusal c }
-{
-    if !is_sound(c) {
-        return 6;
+    // M: no value of lo..hi lies farther off than both ends, so one of the ends has the greatest level.
+    #[tactic(auto, unfolding(crate::specs::Level::max_level))]
+    pub fn max_level(self) -> u64
+        ensures { result ≡ max_level self }
+    {
+        let scale = self.scale();
+        match self.layering() {
+            Layering::Numeric => self.level(scale.lo).max(self.level(scale.hi)),
+            Layering::Layers { top, .. } => u64::from(top),
+        }
     }
-    if limits::GREATEST_LEVEL < max_level(c) {
-        return 7;
+
+    #[tactic(auto, unfolding(crate::specs::Level::inside))]
+    pub fn is_inside(self, v: i32) -> bool
+        ensures { result ≡ inside self v }
+    {
+        let scale = self.scale();
+        (scale.lo <= v) & (v <= scale.hi)
     }
-    0
-}
 
-// The number that a named value of this layer is refused by under the form: 3 where it has no layers, 6 above its top,
-// or 0.
-pub fn layer_refusal(c: Constructor, layer: u8) -> u8
-    ensures { result ≡ layer_refusal c layer }
-{
-    let y = layering_of(c);
-    match y {
-        Layering::Numeric => 3,
-        Layering::Layers { top, others: _ } => if top < layer { 6 } else { 0 },
+    // No figure of the form is refused by 6. Arms that compare share no or-pattern: the prover states none for those.
+    #[tactic(auto, unfolding(crate::specs::Valid::sound))]
+    fn is_sound(self) -> bool
+        ensures { result ≡ sound self }
+    {
+        match self {
+            Constructor::Lowest { lo, hi, step } => (lo <= hi) & (0 < step),
+            Constructor::Highest { lo, hi, step } => (lo <= hi) & (0 < step),
+            Constructor::Around { lo, hi, step, z } => (lo <= z) & (z <= hi) & (0 < step),
+            Constructor::Between {
+                lo,
+                hi,
+                step,
+                low,
+                up,
+            } => (lo <= low) & (low <= up) & (up <= hi) & (0 < step),
+            Constructor::BetweenTrivial {
+                lo,
+                hi,
+                step,
+                low,
+                up,
+            } => (lo <= low) & (low <= up) & (up <= hi) & (0 < step),
+            Constructor::Layered { top, others } => (0 < top)
+                & (top <= limits::MAX_LAYER)
+                & (others <= top),
+        }
     }
-}
 
-// ---- sides and pairs (document 02, order 2)
-
-// The side of low..up on which v lies.
-pub fn side_outside(low: i32, up: i32, v: i32) -> Side
-    ensures { result ≡ side_by low up v }
-{
-    if !arith::at_most(low, v) {
-        return Side::Below;
+    // 6 or 7.
+    #[tactic(auto, using(refusal::specs::Laws::Refusal::checks), unfolding(crate::specs::Valid::constructor_refusal))]
+    pub fn check(self) -> Result<(), Refusal>
+        ensures { refusal_of result ≡ constructor_refusal self }
+    {
+        if !self.is_sound() {
+            return Err(Refusal::Figures);
+        }
+        if limits::GREATEST_LEVEL < self.max_level() {
+            return Err(Refusal::TooMuch);
+        }
+        Ok(())
     }
-    if arith::at_most(v, up) {
-        Side::Inside
-    } else {
-        Side::Above
+
+    // A named value's layer under the form: 3 where it has no layers, 6 above its top.
+    #[tactic(auto, using(refusal::specs::Laws::Refusal::checks), unfolding(crate::specs::Valid::layer_refusal))]
+    pub fn check_layer(self, layer: u8) -> Result<(), Refusal>
+        ensures { refusal_of result ≡ layer_refusal self layer }
+    {
+        match self.layering() {
+            Layering::Numeric => Err(Refusal::OutOfPlace),
+            Layering::Layers { top, .. } if top < layer => Err(Refusal::Figures),
+            Layering::Layers { .. } => Ok(()),
+        }
     }
-}
 
-// The side of v under a form.
-pub fn side_of(c: Constructor, v: i32) -> Side
-    ensures { result ≡ side_of c v }
-{
-    let t = target_of(c);
-    let low = t.low;
-    let up = t.up;
-    side_outside(low, up, v)
-}
-
-// Whether a level under the form has two parts.
-pub fn is_pair(c: Constructor) -> bool
-    ensures { result ≡ is_pair c }
-{
-    match c {
-        Constructor::Lowest {
-            lo: _,
-            hi: _,
-            step: _,
-        } => false,
-        Constructor::Highest {
-            lo: _,
-            hi: _,
-            step: _,
-        } => false,
-        Constructor::Around {
-            lo: _,
-            hi: _,
-            step: _,
-            z: _,
-        } => false,
-        Constructor::Between {
-            lo: _,
-            hi: _,
-            step: _,
-            low: _,
-            up: _,
-        } => false,
-        Constructor::Layered { top: _, others: _ } => false,
-        Constructor::BetweenTrivial {
-            lo: _,
-            hi: _,
-            step: _,
-            low: _,
-            up: _,
-        } => true,
+    // The side of v under the form.
+    #[tactic(auto, unfolding(crate::specs::Side::side_of))]
+    pub fn side(self, v: i32) -> Side
+        ensures { result ≡ side_of self v }
+    {
+        self.target().side(v)
     }
-}
 
-fn one_less(level: u64) -> u64
-    ensures { result ≡ level - 1 }
-{
-    if level == 0 { 0 } else { level - 1 }
+    // Whether a level under the form has two parts.
+    pub fn is_pair(self) -> bool
+        ensures { result ≡ is_pair self }
+    {
+        matches!(self, Constructor::BetweenTrivial { .. })
+    }
 }
 
 // Part `half` of a pair, 0 or 1: 1 is taken off the part of the other side.
 fn pair_part(level: u64, side: Side, half: usize) -> u64
     ensures { result ≡ get_or (pair_of level side) half 0 }
 {
-    if 1 < half {
-        return 0;
-    }
-    match side {
-        Side::Below => if half == 0 { one_less(level) } else { level },
-        Side::Inside => 0,
-        Side::Above => if half == 0 { level } else { one_less(level) },
+    match (side, half) {
+        (Side::Inside, _) => 0,
+        (Side::Below, 0) | (Side::Above, 1) => level.saturating_sub(1),
+        (Side::Below, 1) | (Side::Above, 0) => level,
+        (_, _) => 0,
     }
 }
 
-// Part `half` of a pair, or the level where it is none.
+// Part `half` of a level, where it is a pair, or the level.
 pub fn part_in(pair: bool, half: usize, level: u64, side: Side) -> u64
     ensures { result ≡ part_in pair half level side }
 {
@@ -413,13 +283,4 @@ pub fn part_in(pair: bool, half: usize, level: u64, side: Side) -> u64
     } else {
         level
     }
-}
-
-// The same of v, by its distance from low..up.
-pub fn part_outside(low: i32, up: i32, step: u32, pair: bool, half: usize, v: i32) -> u64
-    ensures { result ≡ part_in pair half (ceil_div (gap low v + gap v up) step) (side_by low up v) }
-{
-    let level = level_outside(low, up, step, v);
-    let side = side_outside(low, up, v);
-    part_in(pair, half, level, side)
 }

@@ -1,12 +1,12 @@
 -- Which run beat a row: the call's checks in order, and what it answers.
-use Rattle.std.specs.Prelude.{◌≡◌, ℕ, ◌<◌, true, leb}
+use Rattle.std.specs.Prelude.{◌≡◌, ℕ, ◌<◌, true, leb, Result, Ok, Err}
 use Rattle.laws.specs.Checks.{◌gives◌, ◌then◌}
 use Rattle.run_log.specs.Log.{Log, row_count}
 use Rattle.preference.specs.declared.PreferenceList.{PreferenceList}
 use Rattle.pareto.specs.Best.{row_dominates, is_best}
 use Rattle.pareto.specs.Checked.{checked_refusal}
-use Rattle.dominator.specs.declared.DominatorAnswer.{DominatorAnswer}
-use Rattle.dominator.specs.declared.DominatorAnswer.TheVariants.{Row, Refused}
+use Rattle.refusal.specs.Refusal.{number}
+use Rattle.refusal.specs.declared.Refusal.{Refusal}
 
 -- the checks that engines share; 12: no such row; 13: the row is on the shortlist itself
 unfoldable pub dominator_refusal : PreferenceList → Log → ℕ → ℕ
@@ -26,6 +26,6 @@ pub record RefusedBy (l : PreferenceList) (log : Log) (row k : ℕ) : Type 0 whe
   pub some : k ≡ 0 → ⊥
 
 -- what a call answers: a row exactly where the checks give no number
-unfoldable pub Answered : PreferenceList → Log → ℕ → DominatorAnswer → Type 0
-Answered l log row (Row s) = Beaten l log row s
-Answered l log row (Refused k) = RefusedBy l log row k
+unfoldable pub Answered : PreferenceList → Log → ℕ → Result ℕ Refusal → Type 0
+Answered l log row (Ok s) = Beaten l log row s
+Answered l log row (Err r) = RefusedBy l log row (number r)

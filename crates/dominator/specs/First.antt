@@ -1,5 +1,5 @@
 -- The search: the first row of the shortlist that dominates the asked one.
-use Rattle.std.specs.Prelude.{◌≡◌, ℕ, ◌<◌, ◌≤◌, Bool, not, ◌&&◌, cond, List, [], ◌∷◌, eqb}
+use Rattle.std.specs.Prelude.{◌≡◌, ℕ, ◌<◌, ◌≤◌, Bool, not, ◌&&◌, cond, ltb, List, [], ◌∷◌}
 use Rattle.limits.specs.Limits.{max_runs}
 use Rattle.laws.specs.First.{first_at}
 use Rattle.laws.specs.Lists.{any_of}
@@ -18,6 +18,11 @@ best_dominates l log r s = is_best l log s && row_dominates l log s r
 unfoldable pub first_dominator : PreferenceList → Log → ℕ → ℕ
 first_dominator l log row = first_at (best_dominates l log row) (row_count log.values)
 
+-- the same, and `none` where there is none
+abbrev pub dominator_or : PreferenceList → Log → ℕ → ℕ → ℕ
+dominator_or l log row none =
+    cond (ltb (first_dominator l log row) (row_count log.values)) (first_dominator l log row) none
+
 -- what the checks leave
 pub record RowAsked (l : PreferenceList) (log : Log) (row : ℕ) : Type 0 where
   pub list : list_refusal l ≡ 0
@@ -29,7 +34,7 @@ pub record RowAsked (l : PreferenceList) (log : Log) (row : ℕ) : Type 0 where
 
 -- row s of a table dominates row r
 abbrev pub beats : List ℕ → ℕ → ℕ → Bool
-beats table s r = eqb (compared table s r) first_dominates
+beats table s r = first_dominates (compared table s r)
 
 -- row s dominates row r, and no row of the list dominates s
 unfoldable pub best_beats : List ℕ → List ℕ → ℕ → ℕ → Bool

@@ -1,25 +1,27 @@
 -- What the engine's own functions promise of weights and node numbers.
-use Rattle.std.specs.Prelude.{ℕ, zero, suc, ◌+◌, ◌*◌, ◌<◌, ◌≤◌, min, cond, List, [], ◌∷◌, ◌≡◌, ltb, get_or, length, take, drop}
+use Rattle.std.specs.Prelude.{ℕ, zero, suc, ◌+◌, ◌*◌, ◌<◌, ◌≤◌, min, cond, List, [], ◌∷◌, ◌≡◌, ltb, ℤ, get_or, length, take, drop}
 use Rattle.limits.specs.Limits.{columns, max_runs, max_values, max_nodes}
 use Rattle.laws.specs.Lists.{joined}
-use Rattle.run_log.specs.Log.{Log, row_count}
+use Rattle.run_log.specs.Log.{Log, row_count, log_refusal}
 use Rattle.preference.specs.Valid.{list_refusal}
 use Rattle.preference.specs.declared.PreferenceList.{PreferenceList}
 use Rattle.pareto.specs.Best.{competes}
+use Rattle.pareto.specs.Checked.{rows_refusal}
 use Rattle.lattice_nodes.specs.Lattice.{node_count, node_id}
 use Rattle.lattice_nodes.specs.Steps.{weights_of}
 use Rattle.lattice.specs.Walked.{lattice_tops, lattice_row}
-
--- the weights of the lattice's parts, and the number n of nodes, where that is at most the greatest number
-pub record Weighs (l : PreferenceList) (weights : List ℕ) (n : ℕ) : Type 0 where
-  pub counted : n ≡ min (node_count (lattice_tops l)) (max_nodes + 1)
-  pub weights_are : n ≤ max_nodes → weights ≡ weights_of (lattice_tops l)
 
 -- an accepted list whose lattice is not too large, and its weights
 pub record Weighed (l : PreferenceList) (weights : List ℕ) : Type 0 where
   pub list_accepted : list_refusal l ≡ 0
   pub few : node_count (lattice_tops l) ≤ max_nodes
   pub weights_are : weights ≡ weights_of (lattice_tops l)
+
+-- what the checks leave: a list, the weights of its lattice, and a log
+pub record Accepted (l : PreferenceList) (weights : List ℕ) (log : List ℤ) : Type 0 where
+  pub weighed : Weighed l weights
+  pub log_accepted : log_refusal log ≡ 0
+  pub rows_accepted : rows_refusal l log ≡ 0
 
 -- the number of the node of row r's levels
 abbrev pub levels_node : PreferenceList → Log → ℕ → ℕ
@@ -56,6 +58,10 @@ node_by weights table r =
 -- the number of the node that row r of a table holds; a row that does not compete holds none
 unfoldable pub id_by : List ℕ → List ℕ → Log → ℕ → ℕ
 id_by weights table log r = cond (competes log r) (node_by weights table r) no_node
+
+-- the numbers for the first n rows of a table
+unfoldable pub ids_by : List ℕ → List ℕ → Log → ℕ → List ℕ
+ids_by weights table log n = joined (λ r. id_by weights table log r ∷ []) n
 
 -- row r stands in a table, with a level for each weight
 pub record Placed (weights table : List ℕ) (r : ℕ) : Type 0 where

@@ -2,6 +2,7 @@ pub mod Bools
 pub mod Lists
 pub mod Joined
 pub mod AnyOf
+pub mod Places
 pub mod Passing
 pub mod Stores
 pub mod Checks

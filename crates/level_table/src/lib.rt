@@ -4,41 +4,59 @@
 // rows.
 #![tactic(auto)]
 
-ghost use Rattle.std.specs.Prelude.{◌≡◌, ◌*◌, ◌≤◌, pos, get_or, length};
+ghost use Rattle.std.specs.Prelude.{◌≡◌, ℕ, ◌*◌, ◌<◌, ◌≤◌, pos, get_or, length, IfOk};
+ghost use Rattle.std.specs.Fn.{FnOnceTakesAt, FnOnceReturnsAt};
 ghost use Rattle.std.proofs.lemmas.List.Edits.{sets};
-ghost use Rattle.limits.specs.Limits.{columns};
-ghost use Rattle.run_log.specs.Log.{row_at, row_count};
-ghost use Rattle.level_table.specs.Table.{part_at, is_wide, plane_of, table_length, with_table};
-ghost use Rattle.level_table.specs.Filled.{with_part, Room};
-ghost use Rattle.level_table.specs.Rule.{row_layer, rule_of, Layered};
+ghost use Rattle.limits.specs.Limits.{columns, max_values};
+ghost use Rattle.refusal.specs.Refusal.{refusal_of};
+ghost use Rattle.run_log.specs.Log.{row_at, row_count, log_refusal};
+ghost use Rattle.level_table.specs.Table.{part_at, is_wide, plane_of, table_length, with_table, table_of};
+ghost use Rattle.level_table.specs.Filled.{with_part, Room, LevelsBy};
+ghost use Rattle.preference.specs.Names.{among};
+ghost use Rattle.level_table.specs.Rule.{rule_of, distance_level};
 
-use constructor::Layering;
-use preference::PreferenceList;
+use constructor::{Layering, Target};
+use preference::{Names, PartAt, PreferenceList};
+use refusal::Refusal;
 
-// What decides a part of a level vector: the values of a column, by their distance from low..up or by layers; of a
+// What decides a part of a level vector: the values of a column, by their distance from a target or by layers; of a
 // pair, which of its parts it is.
 #[derive(Clone, Copy)]
 struct Rule {
     column: usize,
-    low: i32,
-    up: i32,
+    target: Target,
     step: u32,
     layering: Layering,
     pair: bool,
     half: usize,
 }
 
+impl Rule {
+    // The part that a value gets by its distance, in 16 bits.
+    fn level(self, v: i32) -> u16
+        ensures { result ≡ distance_level self v }
+    {
+        let level = self.target.part(self.step, self.pair, self.half, v);
+        (level % limits::LEVEL_COUNT) as u16
+    }
+}
+
+// The layer of a value among names, as a level in 16 bits.
+fn named_layer(names: &Names, v: i32, others: u8) -> u16
+    ensures { result ≡ among names.now.values names.now.layers names.now.count v others }
+{
+    u16::from(layers::layer_among(&names.values, &names.layers, names.count, v, others))
+}
+
 // What decides part k of a level vector. Past the last part the step is 0, and so is every level.
 fn rule_of(list: PreferenceList, k: usize) -> Rule
     ensures { result ≡ rule_of list k }
 {
-    let at = levels::part_at(list, k);
-    let place = at.place;
+    let PartAt { place, half } = levels::part_at(list, k);
     if levels::counted_places(list) <= place {
         return Rule {
             column: 0,
-            low: 0,
-            up: 0,
+            target: Target { low: 0, up: 0 },
             step: 0,
             layering: Layering::Numeric,
             pair: false,
@@ -46,123 +64,55 @@ fn rule_of(list: PreferenceList, k: usize) -> Rule
         };
     }
     let preference = list.preferences[place];
-    let column = preference.column;
     let form = preference.constructor;
-    let scale = constructor::scale_of(form);
-    let target = constructor::target_of(form);
-    let low = target.low;
-    let up = target.up;
-    let layering = constructor::layering_of(form);
     Rule {
-        column: arith::wide(column),
-        low: low,
-        up: up,
-        step: scale.step,
-        layering: layering,
-        pair: constructor::is_pair(form),
-        half: at.half,
+        column: usize::from(preference.column),
+        target: form.target(),
+        step: form.scale().step,
+        layering: form.layering(),
+        pair: form.is_pair(),
+        half,
     }
 }
 
-// The value at a column of row r.
+// The value at a column of row r; 0 where the row has none.
 fn value_at(log: &[i32], r: usize, column: usize) -> i32
     ensures { result ≡ get_or (row_at log.now r) column (pos 0) }
 {
-    levels::value_in(run_log::row(log, r), column)
+    run_log::row(log, r).get(column).copied().unwrap_or(0)
 }
 
-// Part k of a form that goes by distance, into a column of a table: for each row a value, two differences, a division
-// and a store.
-fn fill_distances(
-    list: PreferenceList,
-    rule: Rule,
-    log: &[i32],
-    k: usize,
-    into: usize,
-    table: &mut [u16],
-)
-    requires rule_value { (rule ≡ rule_of list k) × ((rule_of list k).layering ≡ Layering.Numeric) }
-    requires room { Room log.now table.old into }
-    ensures { table.new
-        ≡ with_part (part_at list log.now k) into (row_count log.now) table.old }
-{
-    let column = rule.column;
-    let low = rule.low;
-    let up = rule.up;
-    let step = rule.step;
-    let pair = rule.pair;
-    let half = rule.half;
-    let n = run_log::row_count(log);
-    let mut r: usize = 0;
-    while r < n {
-        let v = value_at(log, r, column);
-        let level = constructor::part_outside(low, up, step, pair, half, v);
-        table[limits::COLUMNS * r + into] = (level % limits::LEVEL_COUNT) as u16;
-        r += 1;
-    }
-}
-
-// A column of a table from named values and their layers.
-fn fill_named(
-    values: &[i32],
-    layers: &[u8],
-    count: usize,
-    others: u8,
+// Sets a column of a table, eight places to a row, to what `level_of` makes of the values in a column of a log.
+fn fill_column<F: Fn(i32) -> u16>(
     log: &[i32],
     column: usize,
+    level_of: F,
     into: usize,
     table: &mut [u16],
 )
-    requires { Room log.now table.old into }
-    ensures { table.new
-        ≡ with_part (row_layer values.now layers.now count others log.now column)
-        into (row_count log.now) table.old }
-{
-    let n = run_log::row_count(log);
-    let mut r: usize = 0;
-    while r < n {
-        let v = value_at(log, r, column);
-        let layer = layers::layer_among(values, layers, count, v, others);
-        table[limits::COLUMNS * r + into] = layer as u16;
-        r += 1;
-    }
-}
-
-// Part k of a form with layers, into a column of a table.
-fn fill_layers(
-    list: PreferenceList,
-    log: &[i32],
-    k: usize,
-    into: usize,
-    others: u8,
-    table: &mut [u16],
-)
-    requires layered { Layered list k others }
+    requires callable { F.IsAlwaysCallable level_of }
     requires room { Room log.now table.old into }
-    ensures { table.new
-        ≡ with_part (part_at list log.now k) into (row_count log.now) table.old }
+    ensures { (f : ℕ → ℕ) → LevelsBy (F.post level_of) log.now column f
+        → table.new ≡ with_part f into (row_count log.now) table.old }
 {
-    let rule = rule_of(list, k);
-    let column = rule.column;
-    let at = levels::part_at(list, k);
-    let names = layers::names_of(list, at.place);
-    let values = names.values;
-    let layers = names.layers;
-    let count = names.count;
-    fill_named(&values, &layers, count, others, log, column, into, table);
+    for r in 0..run_log::row_count(log) {
+        table[limits::COLUMNS * r + into] = level_of(value_at(log, r, column));
+    }
 }
 
 // Sets a column of a table, eight places to a row, to part k of the level vectors of a log, in 16 bits.
 fn fill_part(list: PreferenceList, log: &[i32], k: usize, into: usize, table: &mut [u16])
     requires { Room log.now table.old into }
-    ensures { table.new
-        ≡ with_part (part_at list log.now k) into (row_count log.now) table.old }
+    ensures { table.new ≡ with_part (part_at list log.now k) into (row_count log.now) table.old }
 {
     let rule = rule_of(list, k);
-    let y = rule.layering;
-    match y {
-        Layering::Numeric => fill_distances(list, rule, log, k, into, table),
-        Layering::Layers { top: _, others } => fill_layers(list, log, k, into, others, table),
+    match rule.layering {
+        Layering::Numeric => fill_column(log, rule.column, |v| rule.level(v), into, table),
+        Layering::Layers { others, .. } => {
+            let names = layers::names_of(list, levels::part_at(list, k).place);
+            let layer_of = |v| named_layer(&names, v, others);
+            fill_column(log, rule.column, layer_of, into, table)
+        }
     }
 }
 
@@ -170,6 +120,7 @@ fn fill_part(list: PreferenceList, log: &[i32], k: usize, into: usize, table: &m
 
 // How many numbers the table of a list and a log takes: a plane, or two where level vectors have more than eight
 // parts. The second begins behind the longest first one.
+#[tactic(auto, using(crate::specs::Laws::Table::table_wide, crate::specs::Laws::Table::table_narrow))]
 pub fn table_length(list: PreferenceList, log: &[i32]) -> usize
     ensures { result ≡ table_length list log.now }
 {
@@ -182,6 +133,7 @@ pub fn table_length(list: PreferenceList, log: &[i32]) -> usize
 }
 
 // Whether level vectors have more than eight parts.
+#[tactic(auto, unfolding(crate::specs::Table::is_wide))]
 fn is_wide(list: PreferenceList) -> bool
     ensures { result ≡ is_wide list }
 {
@@ -193,10 +145,8 @@ fn fill_plane(list: PreferenceList, log: &[i32], first: usize, table: &mut [u16]
     requires { (first ≤ columns) × (columns * row_count log.now ≤ length table.old) }
     ensures { table.new ≡ sets table.old 0 (plane_of list log.now first) }
 {
-    let mut k: usize = 0;
-    while k < limits::COLUMNS {
+    for k in 0..limits::COLUMNS {
         fill_part(list, log, first + k, k, table);
-        k += 1;
     }
 }
 
@@ -211,4 +161,38 @@ pub fn fill_table(list: PreferenceList, log: &[i32], table: &mut [u16])
     if is_wide(list) {
         fill_plane(list, log, limits::COLUMNS, &mut table[limits::MAX_VALUES..]);
     }
+}
+
+// What `use_table` makes of the level table of a log, in room for N numbers.
+fn lend_room<const N: usize, R, F: FnOnce(&[u16]) -> R>(
+    list: PreferenceList,
+    log: &[i32],
+    length: usize,
+    use_table: F,
+) -> R
+    requires table_length { (length ≡ table_length list log.now) × (length ≤ N) × (N ≤ 2 * max_values) }
+    requires callable { FnOnceTakesAt F.FnOnce use_table (table_of list log.now) }
+    ensures { FnOnceReturnsAt F.FnOnce use_table (table_of list log.now) result }
+{
+    let mut table = [0u16; N];
+    fill_table(list, log, &mut table[..length]);
+    use_table(&table[..length])
+}
+
+// The same of every accepted log, or 10. Room for a second plane is made only where there is one.
+pub fn lend_table<R, F: FnOnce(&[u16]) -> R>(
+    list: PreferenceList,
+    log: &[i32],
+    use_table: F,
+) -> Result<R, Refusal>
+    requires callable { log_refusal log.now ≡ 0 → FnOnceTakesAt F.FnOnce use_table (table_of list log.now) }
+    ensures refused { refusal_of result ≡ log_refusal log.now }
+    ensures used { IfOk result (λ r. FnOnceReturnsAt F.FnOnce use_table (table_of list log.now) r) }
+{
+    run_log::check(log)?;
+    let length = table_length(list, log);
+    if length <= limits::MAX_VALUES {
+        return Ok(lend_room::<{ limits::MAX_VALUES }, R, F>(list, log, length, use_table));
+    }
+    Ok(lend_room::<{ limits::MAX_TABLE }, R, F>(list, log, length, use_table))
 }

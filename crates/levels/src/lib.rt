@@ -3,16 +3,19 @@
 #![tactic(auto)]
 
 ghost use Rattle.std.specs.Prelude.{◌≡◌, ◌<◌, ◌≤◌, pos, get_or, length, not};
-ghost use Rattle.constructor.specs.Level.{inside};
 ghost use Rattle.limits.specs.Limits.{max_wishes};
 ghost use Rattle.laws.specs.Checks.{◌gives◌};
 ghost use Rattle.laws.specs.Outcome.{outcome};
+ghost use Rattle.refusal.specs.Refusal.{refusal_of, outcome_of};
+ghost use Rattle.constructor.specs.Level.{inside};
+ghost use Rattle.constructor.specs.Side.{tops_of};
 ghost use Rattle.preference.specs.List.{preference_at, places};
-ghost use Rattle.preference.specs.Level.{level_at, side_at, told_at, value_refusal, level_refusal, outcome_of};
-ghost use Rattle.preference.specs.Parts.{levels, max_parts, max_levels, part_of, row_refusal};
+ghost use Rattle.preference.specs.Level.{level_at, side_at, told_at, value_refusal, level_refusal};
+ghost use Rattle.preference.specs.Parts.{row_value, levels, max_levels, part_of, row_refusal};
 
 use constructor::{Constructor, Layering, Side};
-use preference::{LevelAnswer, PartAt, Preference, PreferenceList};
+use preference::{PartAt, Preference, PreferenceList, Told};
+use refusal::Refusal;
 
 // ---- the level of a value
 
@@ -20,63 +23,67 @@ use preference::{LevelAnswer, PartAt, Preference, PreferenceList};
 fn constructor_at(list: PreferenceList, i: usize) -> Constructor
     ensures { result ≡ (preference_at list i).constructor }
 {
-    if limits::MAX_WISHES <= i {
+    let Some(preference) = list.preferences.get(i) else {
         return Constructor::Lowest {
             lo: 0,
             hi: 0,
             step: 0,
         };
-    }
-    let p = list.preferences[i];
-    p.constructor
+    };
+    preference.constructor
 }
 
 fn level_at(list: PreferenceList, i: usize, v: i32) -> u64
     ensures { result ≡ level_at list i v }
 {
-    let c = constructor_at(list, i);
-    let y = constructor::layering_of(c);
-    match y {
-        Layering::Numeric => constructor::level_of(c, v),
-        Layering::Layers { top: _, others } => layers::layer_of(list, i, v, others) as u64,
+    let form = constructor_at(list, i);
+    match form.layering() {
+        Layering::Numeric => form.level(v),
+        Layering::Layers { others, .. } => u64::from(layers::layer_of(list, i, v, others)),
     }
 }
 
 // The side of v under the preference at place i.
+#[tactic(auto, unfolding(preference::specs::Level::side_at))]
 fn side_at(list: PreferenceList, i: usize, v: i32) -> Side
     ensures { result ≡ side_at list i v }
 {
-    let c = constructor_at(list, i);
-    constructor::side_of(c, v)
+    constructor_at(list, i).side(v)
+}
+
+// 8 where v lies outside the bounds of a form.
+#[tactic(auto, using(refusal::specs::Laws::Refusal::checks))]
+fn check_inside(form: Constructor, v: i32) -> Result<(), Refusal>
+    ensures { refusal_of result ≡ not (inside form v) gives 8 }
+{
+    if !form.is_inside(v) {
+        return Err(Refusal::OutsideBounds);
+    }
+    Ok(())
 }
 
 // 8 where v lies outside the bounds of the preference at place i.
-fn value_refusal(list: PreferenceList, i: usize, v: i32) -> u8
-    ensures { result ≡ value_refusal list i v }
+#[tactic(auto, unfolding(preference::specs::Level::value_refusal))]
+fn check_value(list: PreferenceList, i: usize, v: i32) -> Result<(), Refusal>
+    ensures { refusal_of result ≡ value_refusal list i v }
 {
-    let c = constructor_at(list, i);
-    if constructor::is_inside(c, v) { 0 } else { 8 }
+    check_inside(constructor_at(list, i), v)
 }
 
 // The level of a value under the preference at a place, and its side.
-pub fn level(list: PreferenceList, place: u32, value: i32) -> LevelAnswer
+pub fn level(list: PreferenceList, place: u32, value: i32) -> Result<Told, Refusal>
     ensures { outcome_of result ≡ outcome (level_refusal list place value) (told_at list place value) }
 {
-    let k = preference::refusal(list);
-    if k != 0 {
-        return LevelAnswer::Refused(k);
-    }
-    let count = list.count;
-    if count <= place {
-        return LevelAnswer::Refused(10);
+    preference::check(list)?;
+    if list.count <= place {
+        return Err(Refusal::NoRoom);
     }
     let i = place as usize;
-    let outside = value_refusal(list, i, value);
-    if outside != 0 {
-        return LevelAnswer::Refused(outside);
-    }
-    let side = side_at(list, i, value);
-    LevelAnswer::Level(level_at(list, i, value) as u32, side)
+    check_value(list, i, value)?;
+    Ok(Told {
+        level: level_at(list, i, value) as u32,
+        side: side_at(list, i, value),
+    })
 }
 
 // ---- the level vector of a run
@@ -85,44 +92,33 @@ pub fn level(list: PreferenceList, place: u32, value: i32) -> LevelAnswer
 pub fn counted_places(list: PreferenceList) -> usize
     ensures { result ≡ places list }
 {
-    preference::at_most_8(list.count as usize)
+    (list.count as usize).min(limits::MAX_WISHES)
 }
 
-// The value at a column of a run; 0 past the run's end.
-pub fn value_in(row: &[i32], column: usize) -> i32
-    ensures { result ≡ get_or row.now column (pos 0) }
+// The value of a run in the column of a preference; 0 past the run's end.
+fn run_value(preference: Preference, row: &[i32]) -> i32
+    ensures { result ≡ get_or row.now preference.column (pos 0) }
 {
-    if column < row.len() { row[column] } else { 0 }
+    row.get(usize::from(preference.column))
+        .copied()
+        .unwrap_or(0)
 }
 
-// The value of a run in the column of a preference.
-fn run_value(p: Preference, row: &[i32]) -> i32
-    ensures { result ≡ get_or row.now p.column (pos 0) }
+// The number of the parts that a form gives: one, or two.
+#[tactic(auto, unfolding(constructor::specs::Side::tops_of))]
+fn form_parts(form: Constructor) -> usize
+    ensures { (result ≡ length (tops_of form)) × (result ≤ 2) }
 {
-    let column = p.column;
-    value_in(row, arith::wide(column))
-}
-
-// The number of the parts that the preference at place i gives: one, or two.
-fn place_parts(list: PreferenceList, i: usize) -> usize
-    requires { i < max_wishes }
-    ensures { (result ≡ length (max_parts list i)) × (result ≤ 2) }
-{
-    let p = list.preferences[i];
-    let c = p.constructor;
-    if constructor::is_pair(c) { 2 } else { 1 }
+    if form.is_pair() { 2 } else { 1 }
 }
 
 // The number of the parts of every level vector.
 pub fn parts(list: PreferenceList) -> usize
     ensures { result ≡ length (max_levels list) }
 {
-    let count = counted_places(list);
-    let mut total: usize = 0;
-    let mut i: usize = 0;
-    while i < count {
-        total += place_parts(list, i);
-        i += 1;
+    let mut total = 0;
+    for preference in &list.preferences[..counted_places(list)] {
+        total += form_parts(preference.constructor);
     }
     total
 }
@@ -132,21 +128,19 @@ pub fn part_at(list: PreferenceList, k: usize) -> PartAt
     ensures { result ≡ part_of list k }
 {
     let count = counted_places(list);
-    let mut before: usize = 0;
-    let mut i: usize = 0;
-    while i < count {
-        let with = before + place_parts(list, i);
+    let mut before = 0;
+    for place in 0..count {
+        let with = before + form_parts(list.preferences[place].constructor);
         if k < with {
             return PartAt {
-                place: i,
+                place,
                 half: k - before,
             };
         }
         before = with;
-        i += 1;
     }
     PartAt {
-        place: i,
+        place: count,
         half: k - before,
     }
 }
@@ -155,54 +149,45 @@ pub fn part_at(list: PreferenceList, k: usize) -> PartAt
 pub fn part_level(list: PreferenceList, row: &[i32], k: usize) -> u64
     ensures { result ≡ get_or (levels list row.now) k 0 }
 {
-    let at = part_at(list, k);
-    let place = at.place;
+    let PartAt { place, half } = part_at(list, k);
     if counted_places(list) <= place {
         return 0;
     }
-    let p = list.preferences[place];
-    let v = run_value(p, row);
-    let level = level_at(list, place, v);
-    let side = side_at(list, place, v);
-    let c = p.constructor;
-    constructor::part_in(constructor::is_pair(c), at.half, level, side)
+    let preference = list.preferences[place];
+    let v = run_value(preference, row);
+    constructor::part_in(
+        preference.constructor.is_pair(),
+        half,
+        level_at(list, place, v),
+        side_at(list, place, v),
+    )
 }
 
 // The greatest level of part k; 0 past the last.
 pub fn part_max(list: PreferenceList, k: usize) -> u64
     ensures { result ≡ get_or (max_levels list) k 0 }
 {
-    let at = part_at(list, k);
-    let place = at.place;
+    let place = part_at(list, k).place;
     if counted_places(list) <= place {
         return 0;
     }
-    let c = constructor_at(list, place);
-    constructor::max_level(c)
+    constructor_at(list, place).max_level()
 }
 
-// 8 where the run's value lies outside the bounds of a preference.
-fn run_refusal(p: Preference, row: &[i32]) -> u8
-    ensures { result ≡ not (inside p.constructor (get_or row.now p.column (pos 0))) gives 8 }
+// 8 where the run's value lies outside the bounds of the preference at place i.
+#[tactic(auto, unfolding(preference::specs::Level::value_refusal))]
+fn check_place(list: &PreferenceList, row: &[i32], i: usize) -> Result<(), Refusal>
+    requires { i < max_wishes }
+    ensures { refusal_of result ≡ value_refusal list.now i (row_value list.now row.now i) }
 {
-    let v = run_value(p, row);
-    let c = p.constructor;
-    if constructor::is_inside(c, v) { 0 } else { 8 }
+    let preference = list.preferences[i];
+    check_inside(preference.constructor, run_value(preference, row))
 }
 
-// 8 where a value of the run lies outside the bounds of its preference, or 0.
-pub fn row_refusal(list: PreferenceList, row: &[i32]) -> u8
-    ensures { result ≡ row_refusal list row.now }
+// 8 where a value of the run lies outside the bounds of its preference.
+#[tactic(auto, unfolding(preference::specs::Parts::row_refusal))]
+pub fn check_row(list: PreferenceList, row: &[i32]) -> Result<(), Refusal>
+    ensures { refusal_of result ≡ row_refusal list row.now }
 {
-    let count = counted_places(list);
-    let mut i: usize = 0;
-    while i < count {
-        let p = list.preferences[i];
-        let k = run_refusal(p, row);
-        if k != 0 {
-            return k;
-        }
-        i += 1;
-    }
-    0
+    refusal::check_each(counted_places(list), |i| check_place(&list, row, i))
 }

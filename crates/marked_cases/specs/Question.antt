@@ -2,7 +2,7 @@
 use Rattle.std.specs.Prelude.{ℕ, List, [], ◌∷◌, ◌≡◌, ℤ}
 use Rattle.laws.specs.Outcome.{Outcome, outcome}
 use Rattle.run_log.specs.Log.{Log}
-use Rattle.preference.specs.Level.{Told, told_at, level_refusal, max_at}
+use Rattle.preference.specs.Level.{told_at, level_refusal, max_at}
 use Rattle.preference.specs.Parts.{levels}
 use Rattle.pareto.specs.Best.{marks_of}
 use Rattle.lattice_nodes.specs.Lattice.{node_count, crossings, bound}
@@ -10,6 +10,7 @@ use Rattle.lattice.specs.Walked.{lattice_tops, lattice_rows}
 use Rattle.lattice.specs.Engine.{lattice_refusal}
 use Rattle.window.specs.Engine.{window_refusal, machine_of}
 use Rattle.preference.specs.declared.PreferenceList.{PreferenceList}
+use Rattle.preference.specs.declared.Told.{Told}
 
 pub data Question : Type 0 where
   -- the level of a value under the preference at a place, and its side

@@ -1,1 +1,1 @@
-pub mod Double
+pub mod Looks

@@ -3,7 +3,9 @@ pub mod Competing
 pub mod Best
 pub mod Marks
 pub mod Call
+pub mod Checked
 pub mod Counted
 pub mod Planes
+pub mod Relation
 pub mod Table
 pub mod Refusals

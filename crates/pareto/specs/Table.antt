@@ -1,8 +1,10 @@
 -- Two rows of a level table, which has eight numbers to a row, and behind the longest plane of them a second one.
-use Rattle.std.specs.Prelude.{◌≡◌, ℕ, ◌+◌, ◌-◌, ◌*◌, ◌/◌, Bool, ◌&&◌, ◌||◌, cond, List, ltb, get_or, length}
+use Rattle.std.specs.Prelude.{◌≡◌, ℕ, ◌+◌, ◌-◌, ◌*◌, ◌/◌, Bool, true, false, ◌&&◌, ◌||◌, cond, List, ltb, get_or, length}
 use Rattle.limits.specs.Limits.{columns, max_values}
 use Rattle.laws.specs.First.{any_below}
-use Rattle.pareto.specs.declared.Lower.{Lower}
+use Rattle.pareto.specs.declared.table.Lower.{Lower}
+use Rattle.pareto.specs.declared.table.Relation.{Relation}
+use Rattle.pareto.specs.declared.table.Relation.TheVariants.{Equal, FirstDominates, SecondDominates, Incomparable}
 
 -- place k from p on of a table is below that from q on
 abbrev pub lower : List ℕ → ℕ → ℕ → ℕ → Bool
@@ -34,29 +36,28 @@ double_lower table a b = both_in (length table - max_values) a b && (lower_in ta
 unfoldable pub has_lower : List ℕ → ℕ → ℕ → Bool
 has_lower table a b = cond (is_double table) (double_lower table a b) (plane_lower table a b)
 
--- how two rows stand: equal at every level, or one of them betters the other, or each has a level below the other's
-abbrev pub equal : ℕ
-equal = 0
-
-abbrev pub first_dominates : ℕ
-first_dominates = 1
-
-abbrev pub second_dominates : ℕ
-second_dominates = 2
-
-abbrev pub incomparable : ℕ
-incomparable = 3
-
--- "no level of a is above b's and one is below": only the first has a lower level, so that it dominates
-abbrev pub relation : Bool → Bool → ℕ
-relation first second = cond first (cond second incomparable first_dominates) (cond second second_dominates equal)
+-- only the first of two rows has a level below the other's: "no level of a is above b's and one is below", so that it
+-- dominates
+abbrev pub relation : Bool → Bool → Relation
+relation first second = cond first (cond second Incomparable FirstDominates) (cond second SecondDominates Equal)
 
 -- how rows a and b of a table stand, both ways at once
-unfoldable pub compared : List ℕ → ℕ → ℕ → ℕ
+unfoldable pub compared : List ℕ → ℕ → ℕ → Relation
 compared table a b = relation (has_lower table a b) (has_lower table b a)
+
+abbrev pub first_dominates : Relation → Bool
+first_dominates Equal = false
+first_dominates FirstDominates = true
+first_dominates SecondDominates = false
+first_dominates Incomparable = false
+
+abbrev pub second_dominates : Relation → Bool
+second_dominates Equal = false
+second_dominates FirstDominates = false
+second_dominates SecondDominates = true
+second_dominates Incomparable = false
 
 -- what a look at two rows tells both ways, where `below` says which of them has a level below the other's
 pub record Looked (below : ℕ → ℕ → Bool) (a b : ℕ) (r : Lower) : Type 0 where
   pub first_is : r.first ≡ below a b
   pub second_is : r.second ≡ below b a
-  pub relation_is : r.relation ≡ relation (below a b) (below b a)

@@ -3,7 +3,6 @@
 use Rattle.std.specs.Prelude.{ℕ, Bool, not, ◌&&◌, cond, leb, ltb, eqb, ℤ}
 use Rattle.laws.specs.Checks.{◌gives◌, ◌then◌}
 use Rattle.laws.specs.First.{first_at}
-use Rattle.laws.specs.Outcome.{Outcome, accepted, refused}
 use Rattle.arith.specs.Gap.{eq_z}
 use Rattle.constructor.specs.Level.{numeric_level, max_level, layering_of, inside}
 use Rattle.constructor.specs.Side.{side_of}
@@ -13,8 +12,7 @@ use Rattle.constructor.specs.declared.Side.{Side}
 use Rattle.preference.specs.List.{constructor_at, named_at, named_places}
 use Rattle.preference.specs.Valid.{list_refusal}
 use Rattle.preference.specs.declared.PreferenceList.{PreferenceList}
-use Rattle.preference.specs.declared.LevelAnswer.{LevelAnswer}
-use Rattle.preference.specs.declared.LevelAnswer.TheVariants.{Level, Refused}
+use Rattle.preference.specs.declared.Told.{Told}
 
 -- the named value at place k is v, of the preference at place i
 abbrev pub is_named : PreferenceList → ℕ → ℤ → ℕ → Bool
@@ -52,16 +50,6 @@ value_refusal l i v = not (inside (constructor_at l i) v) gives 8
 unfoldable pub level_refusal : PreferenceList → ℕ → ℤ → ℕ
 level_refusal l i v = list_refusal l then leb l.count i gives 10 then value_refusal l i v
 
--- "The level of any value is now given with its side"
-pub record Told : Type 0 where
-  pub level : ℕ
-  pub side : Side
-
--- what the call tells of v under the preference at place i
+-- what the call tells of v under the preference at place i: "The level of any value is now given with its side"
 abbrev pub told_at : PreferenceList → ℕ → ℤ → Told
 told_at l i v = record { level = level_at l i v; side = side_at l i v }
-
--- the number or the values that an answer stands for
-abbrev pub outcome_of : LevelAnswer → Outcome Told
-outcome_of (Level n s) = accepted (record { level = n; side = s })
-outcome_of (Refused k) = refused k

@@ -2,14 +2,14 @@
 // answer.
 #![tactic(auto)]
 
-ghost use Rattle.std.specs.Prelude.{◌≡◌, ◌<◌, ◌≤◌, min};
+ghost use Rattle.std.specs.Prelude.{◌≡◌, ◌<◌, ◌≤◌};
 ghost use Rattle.limits.specs.Limits.{max_wishes, max_named};
-ghost use Rattle.laws.specs.Checks.{◌then◌};
-ghost use Rattle.laws.specs.First.{first_refusal};
+ghost use Rattle.refusal.specs.Refusal.{refusal_of};
 ghost use Rattle.preference.specs.Valid.{taken, column_refusal, preference_refusal, place_refusal, named_refusal};
 ghost use Rattle.preference.specs.Valid.{list_refusal};
 
 use constructor::{Constructor, Side};
+use refusal::Refusal;
 
 // A wish: the column that it is about, and its form.
 #[derive(Clone, Copy)]
@@ -41,11 +41,11 @@ pub const MAX_COUNT: u32 = limits::MAX_WISHES as u32;
 
 pub const MAX_NAMED_COUNT: u32 = limits::MAX_NAMED as u32;
 
-// The level of a value and its side, or the number that the call is refused by.
+// What the level call tells of a value.
 #[derive(Clone, Copy)]
-pub enum LevelAnswer {
-    Level(u32, Side),
-    Refused(u8),
+pub struct Told {
+    pub level: u32,
+    pub side: Side,
 }
 
 // The named values of one preference, in the list's order: the first `count` places.
@@ -63,142 +63,81 @@ pub struct PartAt {
     pub half: usize,
 }
 
-// The first number of two checks.
-fn first_of(a: u8, b: u8) -> u8
-    ensures { result ≡ a then b }
-{
-    if a == 0 { b } else { a }
-}
-
-// How many of n places the list holds.
-pub fn at_most_8(n: usize) -> usize
-    ensures { result ≡ min n max_wishes }
-{
-    if n <= limits::MAX_WISHES {
-        n
-    } else {
-        limits::MAX_WISHES
-    }
-}
-
 // Whether one of the first n preferences has the column.
-fn column_taken(list: PreferenceList, n: usize, column: u8) -> bool
+fn column_taken(list: &PreferenceList, n: usize, column: u8) -> bool
     requires { n ≤ max_wishes }
-    ensures { result ≡ taken list n column }
+    ensures { result ≡ taken list.now n column }
 {
-    let mut j: usize = 0;
-    while j < n {
-        let p = list.preferences[j];
-        if p.column == column {
-            return true;
-        }
-        j += 1;
-    }
-    false
+    list.preferences[..n].iter().any(|p| p.column == column)
 }
 
 // 5 for a column above 7, or one that a preference before place n has.
-fn column_refusal(list: PreferenceList, n: usize, column: u8) -> u8
-    ensures { result ≡ column_refusal list n column }
+#[tactic(auto, using(refusal::specs::Laws::Refusal::checks), unfolding(crate::specs::Valid::column_refusal))]
+fn check_column(list: &PreferenceList, n: usize, column: u8) -> Result<(), Refusal>
+    ensures { refusal_of result ≡ column_refusal list.now n column }
 {
     if 7 < column {
-        return 5;
+        return Err(Refusal::Column);
     }
-    if column_taken(list, at_most_8(n), column) {
-        return 5;
+    if column_taken(list, n.min(limits::MAX_WISHES), column) {
+        return Err(Refusal::Column);
     }
-    0
+    Ok(())
 }
 
-// The number that p is refused by at place n of the list: 5, 6, 7, or 0.
-pub fn preference_refusal(list: PreferenceList, n: usize, p: Preference) -> u8
-    ensures { result ≡ preference_refusal list n p }
+// A preference at place n of the list. These checks look at a list that stays where it is: they are made for each
+// place.
+fn check_at(list: &PreferenceList, n: usize, p: Preference) -> Result<(), Refusal>
+    ensures { refusal_of result ≡ preference_refusal list.now n p }
 {
-    let column = p.column;
-    let c = p.constructor;
-    let column_first = column_refusal(list, n, column);
-    let figures = constructor::refusal(c);
-    first_of(column_first, figures)
+    check_column(list, n, p.column)?;
+    p.constructor.check()
 }
 
-fn place_refusal(list: PreferenceList, i: usize) -> u8
+// The preference p at place n of the list: 5, 6, or 7.
+pub fn check_preference(list: PreferenceList, n: usize, p: Preference) -> Result<(), Refusal>
+    ensures { refusal_of result ≡ preference_refusal list n p }
+{
+    check_at(&list, n, p)
+}
+
+fn check_place(list: &PreferenceList, i: usize) -> Result<(), Refusal>
     requires { i < max_wishes }
-    ensures { result ≡ place_refusal list i }
+    ensures { refusal_of result ≡ place_refusal list.now i }
 {
-    let p = list.preferences[i];
-    preference_refusal(list, i, p)
-}
-
-// The first number of the first n preferences.
-fn places_refusal(list: PreferenceList, n: usize) -> u8
-    requires { n ≤ max_wishes }
-    ensures { result ≡ first_refusal (place_refusal list) n }
-{
-    let mut i: usize = 0;
-    while i < n {
-        let k = place_refusal(list, i);
-        if k != 0 {
-            return k;
-        }
-        i += 1;
-    }
-    0
+    check_at(list, i, list.preferences[i])
 }
 
 // The named value at place k: 3 for no such preference or one before the last named value's, then its layer's number.
-fn named_refusal(list: PreferenceList, k: usize) -> u8
-    requires { (list.count ≤ max_wishes) × (k < max_named) }
-    ensures { result ≡ named_refusal list k }
+#[tactic(auto, using(refusal::specs::Laws::Refusal::checks), unfolding(crate::specs::Valid::named_refusal))]
+fn check_named(list: &PreferenceList, k: usize) -> Result<(), Refusal>
+    requires { (list.now.count ≤ max_wishes) × (k < max_named) }
+    ensures { refusal_of result ≡ named_refusal list.now k }
 {
     let naming = list.named[k];
     let owner = naming.preference;
-    let at = arith::wide(owner);
-    let count = list.count as usize;
-    if count <= at {
-        return 3;
+    if list.count <= u32::from(owner) {
+        return Err(Refusal::OutOfPlace);
     }
-    let b = arith::place_before(k);
-    let d = list.named[b];
-    if owner < d.preference {
-        return 3;
+    if owner < list.named[k.saturating_sub(1)].preference {
+        return Err(Refusal::OutOfPlace);
     }
-    let p = list.preferences[at];
-    let c = p.constructor;
-    let layer = naming.layer;
-    constructor::layer_refusal(c, layer)
+    list.preferences[usize::from(owner)]
+        .constructor
+        .check_layer(naming.layer)
 }
 
-// The first number of the first n named values.
-fn all_named_refusal(list: PreferenceList, n: usize) -> u8
-    requires { (list.count ≤ max_wishes) × (n ≤ max_named) }
-    ensures { result ≡ first_refusal (named_refusal list) n }
+// Whether a list is accepted, or the number that it is refused by.
+#[tactic(auto, using(refusal::specs::Laws::Refusal::checks), unfolding(crate::specs::Valid::list_refusal))]
+pub fn check(list: PreferenceList) -> Result<(), Refusal>
+    ensures { refusal_of result ≡ list_refusal list }
 {
-    let mut i: usize = 0;
-    while i < n {
-        let k = named_refusal(list, i);
-        if k != 0 {
-            return k;
-        }
-        i += 1;
+    if (list.count == 0) | (MAX_COUNT < list.count) {
+        return Err(Refusal::WishCount);
     }
-    0
-}
-
-// The number that a list is refused by, or 0.
-pub fn refusal(list: PreferenceList) -> u8
-    ensures { result ≡ list_refusal list }
-{
-    let count = list.count;
-    let namedcount = list.namedcount;
-    if (count == 0) | (MAX_COUNT < count) {
-        return 1;
+    if MAX_NAMED_COUNT < list.namedcount {
+        return Err(Refusal::TooMuch);
     }
-    if MAX_NAMED_COUNT < namedcount {
-        return 7;
-    }
-    let k = places_refusal(list, count as usize);
-    if k != 0 {
-        return k;
-    }
-    all_named_refusal(list, namedcount as usize)
+    refusal::check_each(list.count as usize, |i| check_place(&list, i))?;
+    refusal::check_each(list.namedcount as usize, |k| check_named(&list, k))
 }

@@ -3,7 +3,11 @@
 #![tactic(auto)]
 
 ghost use Rattle.std.specs.Prelude.{◌≡◌, ltb, get_or};
+ghost use Rattle.laws.specs.First.{any_below};
+ghost use Rattle.refusal.specs.Refusal.{refusal_of};
 ghost use Rattle.run_log.specs.Log.{row_count, row_at, log_refusal, marks_refusal, mark_values_refusal};
+
+use refusal::Refusal;
 
 // ---- rows
 
@@ -33,44 +37,43 @@ pub fn row(log: &[i32], r: usize) -> &[i32]
 
 // ---- checks
 
-// 10 for a log that is not eights or is too long, or 0.
-pub fn refusal(log: &[i32]) -> u8
-    ensures { result ≡ log_refusal log.now }
+// 10 for a log that is not eights or is too long.
+#[tactic(auto, using(refusal::specs::Laws::Refusal::checks), unfolding(crate::specs::Log::log_refusal))]
+pub fn check(log: &[i32]) -> Result<(), Refusal>
+    ensures { refusal_of result ≡ log_refusal log.now }
 {
     let n = log.len();
     if (n % limits::COLUMNS != 0) | (limits::MAX_VALUES < n) {
-        10
-    } else {
-        0
+        return Err(Refusal::NoRoom);
     }
+    Ok(())
 }
 
-// 10 for marks shorter than the rows, or 0.
-pub fn marks_refusal(log: &[i32], marks: usize) -> u8
-    ensures { result ≡ marks_refusal log.now marks }
+// 10 for marks shorter than the rows.
+#[tactic(auto, using(refusal::specs::Laws::Refusal::checks))]
+pub fn check_marks(log: &[i32], marks: usize) -> Result<(), Refusal>
+    ensures { refusal_of result ≡ marks_refusal log.now marks }
 {
-    if marks < row_count(log) { 10 } else { 0 }
-}
-
-// Whether the byte of row r is no mark.
-fn is_no_mark(marks: &[u8], r: usize) -> bool
-    ensures { result ≡ ltb 1 (get_or marks.now r 0) }
-{
-    if r < marks.len() { 1 < marks[r] } else { false }
-}
-
-// 14 where the byte of a row is no mark, or 0. Bytes past the rows are not looked at, and a missing byte reads as 0.
-// For calls that are handed marks, as the shift sheet is.
-pub fn mark_values_refusal(log: &[i32], marks: &[u8]) -> u8
-    ensures { result ≡ mark_values_refusal log.now marks.now }
-{
-    let rows = row_count(log);
-    let mut r: usize = 0;
-    while r < rows {
-        if is_no_mark(marks, r) {
-            return 14;
-        }
-        r += 1;
+    if marks < row_count(log) {
+        return Err(Refusal::NoRoom);
     }
-    0
+    Ok(())
+}
+
+// Whether the byte of a row is no mark. Bytes past the rows are not looked at, and a missing byte reads as 0.
+fn some_no_mark(log: &[i32], marks: &[u8]) -> bool
+    ensures { result ≡ any_below (λ r. ltb 1 (get_or marks.now r 0)) (row_count log.now) }
+{
+    marks.iter().take(row_count(log)).any(|mark| 1 < *mark)
+}
+
+// 14 where the byte of a row is no mark. For calls that are handed marks, as the shift sheet is.
+#[tactic(auto, using(refusal::specs::Laws::Refusal::checks), unfolding(crate::specs::Log::mark_values_refusal))]
+pub fn check_mark_values(log: &[i32], marks: &[u8]) -> Result<(), Refusal>
+    ensures { refusal_of result ≡ mark_values_refusal log.now marks.now }
+{
+    if some_no_mark(log, marks) {
+        return Err(Refusal::NoMark);
+    }
+    Ok(())
 }

@@ -2,20 +2,12 @@
 -- work space.
 use Rattle.std.specs.Prelude.{ℕ, cond, List, [], ◌∷◌, eqb, length, get_or}
 use Rattle.limits.specs.Limits.{max_nodes, enough_budget, max_work, program_window}
-use Rattle.laws.specs.Outcome.{Outcome, accepted, refused}
 use Rattle.run_log.specs.Log.{Log}
 use Rattle.preference.specs.declared.PreferenceList.{PreferenceList}
 use Rattle.pareto.specs.Best.{best_matches}
 use Rattle.pareto.specs.Call.{Call}
 use Rattle.lattice.specs.Engine.{lattice_refusal}
 use Rattle.window.specs.Engine.{window_refusal}
-use Rattle.selection.specs.declared.Selection.{Selection}
-use Rattle.selection.specs.declared.Selection.TheVariants.{Best, Refused}
-
--- the number or the count that an answer stands for
-abbrev pub outcome_of : Selection → Outcome ℕ
-outcome_of (Best n) = accepted n
-outcome_of (Refused k) = refused k
 
 -- "the lattice engine with budget 262,144, or the window engine with w 64 where refusal 9 would come"
 unfoldable pub either_refusal : PreferenceList → Log → ℕ → ℕ

@@ -1,30 +1,54 @@
 // Best matches by an engine that brings its own work space.
 #![tactic(auto)]
 
-ghost use Rattle.std.specs.Prelude.{◌≡◌, ◌≤◌, length};
-ghost use Rattle.limits.specs.Limits.{max_runs, max_nodes, max_work};
+ghost use Rattle.std.specs.Prelude.{◌≡◌, ◌==◌, ◌≤◌, length, take, count_by, IfOk};
+ghost use Rattle.limits.specs.Limits.{max_values, max_runs, max_nodes, max_work};
+ghost use Rattle.refusal.specs.Refusal.{refusal_of, outcome_of};
 ghost use Rattle.run_log.specs.Log.{log_of, row_count, marked_rows};
+ghost use Rattle.stream_format.specs.Read.{read_of};
 ghost use Rattle.pareto.specs.Call.{counting, Leaves};
 ghost use Rattle.lattice.specs.Engine.{lattice_call};
 ghost use Rattle.window.specs.Engine.{window_call};
-ghost use Rattle.selection.specs.Selection.{one, outcome_of, either_call};
+ghost use Rattle.selection.specs.Stream.{list_in, log_in};
+ghost use Rattle.selection.specs.Selection.{either_call};
 
-use lattice::LatticeAnswer;
 use preference::PreferenceList;
-use window::WindowAnswer;
+use refusal::Refusal;
 
-// The number of shortlisted rows, or the number that the call is refused by.
+// ---- what a stream holds
+
+// The list of a stream, and its log as a part of lent numbers.
 #[derive(Clone, Copy)]
-pub enum Selection {
-    Best(u16),
-    Refused(u8),
+pub struct Held<'a> {
+    pub list: PreferenceList,
+    pub log: &'a [i32],
 }
 
-// 1 where row r is marked, else 0.
-fn marked(marks: &[u8], r: usize) -> usize
-    ensures { result ≡ one marks.now r }
+// Reads a stream into lent numbers: there is room for every log.
+pub fn read<'a>(
+    stream: &[u8],
+    numbers: &'a mut [i32; limits::MAX_VALUES],
+) -> Result<Held<'a>, Refusal>
+    ensures refused { refusal_of result ≡ (read_of stream.now max_values).refusal }
+    ensures held { IfOk result
+        (λ held. (held.list ≡ list_in stream.now) × (held.log.now ≡ (log_in stream.now).values)) }
 {
-    if word::get_u8(marks, r) == 1 { 1 } else { 0 }
+    match stream_reader::read(stream, numbers) {
+        Ok(read) => Ok(Held {
+            list: read.list,
+            log: &numbers[..limits::COLUMNS * read.rows],
+        }),
+        Err(unread) => Err(unread.refusal),
+    }
+}
+
+// ---- by one engine or the other
+
+// How many of the first n bytes mark a row.
+fn count_ones(marks: &[u8], n: usize) -> usize
+    ensures { result ≡ count_by (λ mark. mark == 1) (take n marks.now) }
+{
+    marks.iter().take(n).filter(|mark| **mark == 1).count()
 }
 
 // How many rows of a log are marked.
@@ -32,54 +56,47 @@ fn count_marked(marks: &[u8], log: &[i32]) -> u16
     requires { row_count log.now ≤ max_runs }
     ensures { result ≡ length (marked_rows marks.now (row_count log.now)) }
 {
-    let n = run_log::row_count(log);
-    let mut count: usize = 0;
-    let mut r: usize = 0;
-    while r < n {
-        count += marked(marks, r);
-        r += 1;
-    }
-    count as u16
+    count_ones(marks, run_log::row_count(log)) as u16
 }
 
 // By the lattice engine, within a budget of crossings.
-pub fn by_lattice(list: PreferenceList, log: &[i32], marks: &mut [u8], budget: u32) -> Selection
+pub fn by_lattice(
+    list: PreferenceList,
+    log: &[i32],
+    marks: &mut [u8],
+    budget: u32,
+) -> Result<u16, Refusal>
     ensures { Leaves (counting (lattice_call list (log_of log.now) (length marks.old) max_nodes budget))
         marks.old (outcome_of result) marks.new }
 {
-    let mut nodes = [0u8; limits::MAX_NODES];
-    match lattice::run(list, log, marks, &mut nodes, budget) {
-        LatticeAnswer::Crossed(_) => Selection::Best(count_marked(marks, log)),
-        LatticeAnswer::Refused(k) => Selection::Refused(k),
-    }
+    let mut nodes = [0; limits::MAX_NODES];
+    lattice::run(list, log, marks, &mut nodes, budget)?;
+    Ok(count_marked(marks, log))
 }
 
 // By the window engine, with a window of w entries.
-pub fn by_window(list: PreferenceList, log: &[i32], marks: &mut [u8], w: u32) -> Selection
+pub fn by_window(
+    list: PreferenceList,
+    log: &[i32],
+    marks: &mut [u8],
+    w: u32,
+) -> Result<u16, Refusal>
     ensures { Leaves (counting (window_call list (log_of log.now) (length marks.old) max_work w))
         marks.old (outcome_of result) marks.new }
 {
-    let mut work = [0u32; limits::MAX_WORK];
-    match window::run(list, log, marks, &mut work, w) {
-        WindowAnswer::Compared(_) => Selection::Best(count_marked(marks, log)),
-        WindowAnswer::Refused(k) => Selection::Refused(k),
-    }
+    let mut work = [0; limits::MAX_WORK];
+    window::run(list, log, marks, &mut work, w)?;
+    Ok(count_marked(marks, log))
 }
 
 // By the lattice engine, or by the window engine where the lattice is too large.
 #[tactic(auto, using(crate::proofs::Engines::either))]
-pub fn by_either(list: PreferenceList, log: &[i32], marks: &mut [u8]) -> Selection
+pub fn by_either(list: PreferenceList, log: &[i32], marks: &mut [u8]) -> Result<u16, Refusal>
     ensures { Leaves (either_call list (log_of log.now) (length marks.old))
         marks.old (outcome_of result) marks.new }
 {
-    let first = by_lattice(list, log, marks, limits::ENOUGH_BUDGET);
-    match first {
-        Selection::Best(n) => Selection::Best(n),
-        Selection::Refused(k) => {
-            if k == 9 {
-                return by_window(list, log, marks, limits::PROGRAM_WINDOW);
-            }
-            Selection::Refused(k)
-        }
+    match by_lattice(list, log, marks, limits::ENOUGH_BUDGET) {
+        Err(Refusal::TooManyNodes) => by_window(list, log, marks, limits::PROGRAM_WINDOW),
+        answer => answer,
     }
 }

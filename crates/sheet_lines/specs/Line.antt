@@ -11,6 +11,11 @@ use Rattle.text.specs.Text.{decimal, signed, hundredths}
 abbrev pub line_width : ℕ
 line_width = 101
 
+-- no text that is put to the right is longer: a foot has two words of nine letters, and two numbers of at most 20
+-- figures
+abbrev pub text_bytes : ℕ
+text_bytes = 64
+
 -- "all to the right": spaces before a text, so that it ends with the last of w places. Of a longer text the last w
 -- characters would be left; no text of a sheet is longer than its places (Laws/Fields.antt: `field_whole`,
 -- `foot_whole`).

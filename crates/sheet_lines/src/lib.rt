@@ -1,142 +1,94 @@
-// The lines of a shift sheet, put into lent bytes (document 02, order 1).
+// The lines of a shift sheet (document 02, order 1).
 #![tactic(auto)]
 
-ghost use Rattle.std.specs.Prelude.{◌≡◌, ◌-◌, ◌≤◌, pos, length, get_or};
-ghost use Rattle.text.specs.Prints.{Prints};
-ghost use Rattle.sheet_lines.specs.Line.{padded, field_width, fields_of, field_text};
-ghost use Rattle.sheet_lines.specs.Line.{heading_line, row_line, foot_text, foot_line};
-ghost use Rattle.sheet_lines.specs.Laws.Turns.{spaces, longest_text};
+ghost use Rattle.std.specs.Prelude.{◌≤◌, ℕ, List, length};
+ghost use Rattle.std.specs.Fn.{FnOnceReturnsAtMut};
+ghost use Rattle.output.specs.declared.Output.{Output};
+ghost use Rattle.output.specs.Writes.{Writes};
+ghost use Rattle.sheet_lines.specs.Line.{text_bytes, padded, heading_line, row_line, foot_text, foot_line};
+ghost use Rattle.sheet_lines.specs.Laws.Turns.{spaces};
+
+use output::Output;
 
 // ---- a text to the right
 
-fn put_spaces(out: &mut [u8], at: usize, n: usize) -> usize
-    ensures { Prints out.old out.new at result (spaces n) }
+#[tactic(auto, using(output::specs::Laws::Writes::writing, std::proofs::lemmas::Grind::replicate_next))]
+fn put_spaces(out: &mut Output<'_>, n: usize)
+    ensures { Writes out.old out.new (spaces n) }
 {
-    let mut next = at;
-    let mut i: usize = 0;
-    while i < n {
-        next = text::put_byte(out, next, b' ');
-        i += 1;
+    for _ in 0..n {
+        out.put_byte(b' ');
     }
-    next
 }
 
-// How much a exceeds b.
-fn excess(a: usize, b: usize) -> usize
-    ensures { result ≡ a - b }
+#[tactic(auto, using(crate::proofs::Rules::right), unfolding(crate::specs::Line::padded))]
+fn put_padded(out: &mut Output<'_>, places: usize, t: &[u8])
+    ensures { Writes out.old out.new (padded places t.now) }
 {
-    if b < a { a - b } else { 0 }
+    put_spaces(out, places.saturating_sub(t.len()));
+    out.put_bytes(&t[t.len().saturating_sub(places)..]);
 }
 
-// A text to the right in so many places.
-fn put_right(out: &mut [u8], at: usize, places: usize, t: &[u8]) -> usize
-    ensures { Prints out.old out.new at result (padded places t.now) }
-{
-    let n = t.len();
-    let next = put_spaces(out, at, excess(places, n));
-    let from = excess(n, places);
-    text::put_bytes(out, next, &t[from..])
-}
+// No text of a line is longer: a foot has two words of nine letters, and two numbers of at most 20 figures.
+const TEXT_BYTES: usize = 64;
 
-// ---- the fields of a row
-
-// The number in a column of a row, 0 where it has no such column.
-fn value(row: &[i32], column: usize) -> i32
-    ensures { result ≡ get_or row.now column (pos 0) }
-{
-    if column < row.len() { row[column] } else { 0 }
-}
-
-// The text of field j: the row's number, its hours, or another column.
-fn put_text(out: &mut [u8], r: usize, row: &[i32], j: usize) -> usize
-    ensures prints { Prints out.old out.new 0 result (field_text r row.now j) }
-    ensures j_len_bound { length (field_text r row.now j) ≤ longest_text }
-{
-    if j == 0 {
-        return text::put_decimal(out, 0, r as u64);
-    }
-    if j == 1 {
-        return text::put_hundredths(out, 0, value(row, 0));
-    }
-    text::put_signed(out, 0, value(row, j - 1))
-}
-
-fn width(j: usize) -> usize
-    ensures { result ≡ field_width j }
-{
-    if j == 0 {
-        return 4;
-    }
-    if j == 1 {
-        return 13;
-    }
-    12
-}
-
-// No text of a field is longer: a row number has at most 20 figures.
-const TEXT_BYTES: usize = 32;
-
-// Field j, to the right in its places.
-fn put_field(out: &mut [u8], at: usize, r: usize, row: &[i32], j: usize) -> usize
-    ensures { Prints out.old out.new at result
-        (padded (field_width j) (field_text r row.now j)) }
+// What a closure puts out, to the right in so many places.
+fn put_right<F: FnOnce(&mut Output<'_>)>(out: &mut Output<'_>, places: usize, put: F)
+    requires { F.IsAlwaysCallable put }
+    ensures { (x : List ℕ) → length x ≤ text_bytes
+        → ((a b : Output) → FnOnceReturnsAtMut F.FnOnce put a tt b → Writes a b x)
+        → Writes out.old out.new (padded places x) }
 {
     let mut bytes = [0u8; TEXT_BYTES];
-    let n = put_text(&mut bytes, r, row, j);
-    put_right(out, at, width(j), &bytes[..n])
-}
-
-fn put_fields(out: &mut [u8], at: usize, r: usize, row: &[i32]) -> usize
-    ensures { Prints out.old out.new at result
-        (fields_of (field_text r row.now)) }
-{
-    let mut next = at;
-    let mut j: usize = 0;
-    while j < 9 {
-        next = put_field(out, next, r, row, j);
-        j += 1;
-    }
-    next
+    let mut text = Output::new(&mut bytes);
+    put(&mut text);
+    put_padded(out, places, text.written());
 }
 
 // ---- the three kinds of line
 
-pub fn put_row(out: &mut [u8], at: usize, r: usize, row: &[i32]) -> usize
-    ensures { Prints out.old out.new at result (row_line r row.now) }
+const NUMBER_WIDTH: usize = 4;
+
+const HOURS_WIDTH: usize = 13;
+
+const COLUMN_WIDTH: usize = 12;
+
+// A row's number, its hours, and its other columns. A column that the row has not reads as 0.
+pub fn put_row(out: &mut Output<'_>, r: usize, row: &[i32])
+    ensures { Writes out.old out.new (row_line r row.now) }
 {
-    let end = put_fields(out, at, r, row);
-    text::put_byte(out, end, b'\n')
+    let hours = row.first().copied().unwrap_or(0);
+    put_right(out, NUMBER_WIDTH, |text| text::put_decimal(text, r as u64));
+    put_right(out, HOURS_WIDTH, |text| text::put_hundredths(text, hours));
+    for column in 1..limits::COLUMNS {
+        let figure = row.get(column).copied().unwrap_or(0);
+        put_right(out, COLUMN_WIDTH, |text| text::put_signed(text, figure));
+    }
+    out.put_byte(b'\n');
 }
 
-pub fn put_heading(out: &mut [u8], at: usize) -> usize
-    ensures { Prints out.old out.new at result heading_line }
+pub fn put_heading(out: &mut Output<'_>)
+    ensures { Writes out.old out.new heading_line }
 {
-    text::put_bytes(
-        out,
-        at,
-        b" ROW        HOURS     CUBIC M     DENSITY        FUEL     SUCTION   DISCHARGE       DEPTH        SOIL\n",
-    )
+    out.put_str(
+        " ROW        HOURS     CUBIC M     DENSITY        FUEL     SUCTION   DISCHARGE       DEPTH        SOIL\n",
+    );
 }
 
-fn put_foot_text(out: &mut [u8], page: usize, pages: usize) -> usize
-    ensures { Prints out.old out.new 0 result (foot_text page pages) }
+fn put_foot_text(out: &mut Output<'_>, page: usize, pages: usize)
+    ensures { Writes out.old out.new (foot_text page pages) }
 {
-    let after_page = text::put_bytes(out, 0, b"PAGE ");
-    let after_number = text::put_decimal(out, after_page, page as u64);
-    let after_of = text::put_bytes(out, after_number, b" OF ");
-    text::put_decimal(out, after_of, pages as u64)
+    out.put_str("PAGE ");
+    text::put_decimal(out, page as u64);
+    out.put_str(" OF ");
+    text::put_decimal(out, pages as u64);
 }
-
-// No foot's text is longer: two words of nine letters, and two numbers of at most 20 figures.
-const FOOT_BYTES: usize = 64;
 
 const LINE_WIDTH: usize = 101;
 
-pub fn put_foot(out: &mut [u8], at: usize, page: usize, pages: usize) -> usize
-    ensures { Prints out.old out.new at result (foot_line page pages) }
+pub fn put_foot(out: &mut Output<'_>, page: usize, pages: usize)
+    ensures { Writes out.old out.new (foot_line page pages) }
 {
-    let mut foot = [0u8; FOOT_BYTES];
-    let n = put_foot_text(&mut foot, page, pages);
-    let end = put_right(out, at, LINE_WIDTH, &foot[..n]);
-    text::put_byte(out, end, b'\n')
+    put_right(out, LINE_WIDTH, |text| put_foot_text(text, page, pages));
+    out.put_byte(b'\n');
 }

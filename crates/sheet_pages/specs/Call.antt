@@ -1,11 +1,9 @@
 -- Document 02, order 1: the call's checks, what it answers and what it leaves.
 use Rattle.std.specs.Prelude.{ℕ, ◌≡◌, cond, List, ◌++◌, ltb, eqb, ℤ, length, drop}
 use Rattle.laws.specs.Checks.{◌gives◌, ◌then◌}
-use Rattle.laws.specs.Outcome.{Outcome, accepted, refused, outcome}
+use Rattle.laws.specs.Outcome.{Outcome, outcome}
 use Rattle.run_log.specs.Log.{log_refusal, marks_refusal, mark_values_refusal}
 use Rattle.sheet_pages.specs.Pages.{sheet_of}
-use Rattle.sheet_pages.specs.declared.SheetAnswer.{SheetAnswer}
-use Rattle.sheet_pages.specs.declared.SheetAnswer.TheVariants.{Printed, Refused}
 
 -- "The log and mark lengths are checked by 10."; "14, a row's mark not 0 or 1, after 10"
 unfoldable pub handed_refusal : List ℤ → List ℕ → ℕ
@@ -18,11 +16,6 @@ room_refusal sheet room = ltb room (length sheet) gives 15
 -- "after 14"
 unfoldable pub sheet_refusal : List ℤ → List ℕ → ℕ → ℕ
 sheet_refusal log marks room = handed_refusal log marks then room_refusal (sheet_of log marks) room
-
--- the length or the number that an answer stands for
-abbrev pub outcome_of : SheetAnswer → Outcome ℕ
-outcome_of (Printed n) = accepted n
-outcome_of (Refused k) = refused k
 
 -- the output after a call whose checks give a number, 0 where it is accepted: "bytes past it are unchanged"; document
 -- 01: "Nothing lent changes on a refusal"

@@ -3,7 +3,7 @@ use Rattle.std.specs.Prelude.{ℕ, cond, List, eqb, length, take, ◌≡◌}
 use Rattle.laws.specs.Checks.{◌then◌}
 use Rattle.pareto.specs.Best.{best_matches}
 use Rattle.selection.specs.Stream.{list_in, log_in, program_call}
-use Rattle.word.specs.Puts.{Puts}
+use Rattle.output.specs.Puts.{Puts}
 use Rattle.report_lines.specs.Lines.{refused_text}
 use Rattle.sheet_pages.specs.Pages.{pages_of}
 use Rattle.sheet_pages.specs.Call.{room_refusal}

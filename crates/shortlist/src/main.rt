@@ -6,7 +6,8 @@ ghost use Rattle.limits.specs.Limits.{max_stream_bytes};
 ghost use Rattle.stream_format.specs.Kinds.{run_record};
 ghost use Rattle.report.specs.Report.{report_end, ReportsFront};
 
-// The descriptors of standard input and output.
+// The descriptors of standard input and output. They are read and written by the kit's io, which assumes `read` and
+// `write` alone: std's streams assume two functions more (docs/TRUST.md).
 const STDIN_FILENO: i32 = 0;
 
 const STDOUT_FILENO: i32 = 1;

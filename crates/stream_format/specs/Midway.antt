@@ -3,7 +3,7 @@ use Rattle.std.specs.Prelude.{◌≡◌, ℕ, suc, ◌+◌, ◌-◌, ◌<◌, �
 use Rattle.preference.specs.List.{preference_at}
 use Rattle.preference.specs.declared.PreferenceList.{PreferenceList}
 use Rattle.stream_format.specs.Read.{steps, records}
-use Rattle.stream_format.specs.declared.ReadAnswer.{ReadAnswer}
+use Rattle.stream_format.specs.ReadAnswer.{ReadAnswer}
 
 abbrev pub column_at : PreferenceList → ℕ → ℕ
 column_at l i = (preference_at l i).column

@@ -1,5 +1,5 @@
 -- Document 01, "When a number comes back": "Reading checks record by record: 2, 3, 4, 5, 6, 7; then 1; then 10".
-use Rattle.std.specs.Prelude.{ℕ, zero, suc, ◌+◌, ◌-◌, ◌*◌, List, [], ◌∷◌, ◌++◌, Bool, true, false, cond, not, ◌&&◌, ◌||◌, length, get_or, drop, set, replicate, ltb, leb, eqb, ℤ}
+use Rattle.std.specs.Prelude.{ℕ, zero, suc, Result, Ok, Err, ◌+◌, ◌-◌, ◌*◌, List, [], ◌∷◌, ◌++◌, Bool, true, false, cond, not, ◌&&◌, ◌||◌, length, get_or, drop, set, replicate, ltb, leb, eqb, ℤ}
 use Rattle.std.proofs.lemmas.List.Edits.{sets}
 use Rattle.limits.specs.Limits.{columns, max_runs, max_wishes, max_named}
 use Rattle.word.specs.Word.{word_at, int_at}
@@ -16,10 +16,13 @@ use Rattle.preference.specs.Valid.{preference_refusal}
 use Rattle.preference.specs.declared.Preference.{Preference}
 use Rattle.preference.specs.declared.Named.{Named}
 use Rattle.preference.specs.declared.PreferenceList.{PreferenceList}
+use Rattle.refusal.specs.Refusal.{number}
 use Rattle.stream_format.specs.Kinds.{kind_byte, class_of, body_of}
 use Rattle.stream_format.specs.declared.Class.{Class}
 use Rattle.stream_format.specs.declared.Class.TheVariants.{Unknown, PreferenceRecord, NamedRecord, RunRecord}
-use Rattle.stream_format.specs.declared.ReadAnswer.{ReadAnswer}
+use Rattle.stream_format.specs.ReadAnswer.{ReadAnswer}
+use Rattle.stream_format.specs.declared.StreamRead.{StreamRead}
+use Rattle.stream_format.specs.declared.ReadRefusal.{ReadRefusal}
 
 -- ---- the figures of the record that bs begins with
 
@@ -146,6 +149,15 @@ with_record r bs =
 -- a refusal: "the number .., the byte place of the record .., the rows read and the wish list, both zero"
 abbrev pub refused_at : ℕ → ℕ → ReadAnswer
 refused_at n place = record { refusal = n; place = place; rows = 0; list = zero_list }
+
+-- reading goes on at a place
+abbrev pub reading : ℕ → ℕ → PreferenceList → ReadAnswer
+reading place rows l = record { refusal = 0; place = place; rows = rows; list = l }
+
+-- what a call's answer says of a stream of n bytes
+abbrev pub read_answer : ℕ → Result StreamRead ReadRefusal → ReadAnswer
+read_answer n (Ok r) = reading n r.rows r.list
+read_answer n (Err e) = refused_at (number e.refusal) e.place
 
 -- before the first record
 abbrev pub start : ReadAnswer

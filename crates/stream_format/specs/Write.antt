@@ -4,7 +4,6 @@ use Rattle.std.proofs.lemmas.List.Edits.{sets}
 use Rattle.word.specs.Word.{word_bytes, int_bytes}
 use Rattle.laws.specs.Checks.{◌gives◌, ◌then◌}
 use Rattle.laws.specs.Lists.{joined}
-use Rattle.laws.specs.Outcome.{Outcome, accepted, refused}
 use Rattle.run_log.specs.Log.{row_count, row_at, log_refusal}
 use Rattle.constructor.specs.declared.Constructor.{Constructor}
 use Rattle.constructor.specs.declared.Constructor.TheVariants.{Lowest, Highest, Around, Between, Layered}
@@ -14,8 +13,6 @@ use Rattle.preference.specs.Valid.{list_refusal}
 use Rattle.preference.specs.declared.Preference.{Preference}
 use Rattle.preference.specs.declared.Named.{Named}
 use Rattle.preference.specs.declared.PreferenceList.{PreferenceList}
-use Rattle.stream_format.specs.declared.WriteAnswer.{WriteAnswer}
-use Rattle.stream_format.specs.declared.WriteAnswer.TheVariants.{Written, Refused}
 
 -- ---- the bytes of a record
 
@@ -79,8 +76,3 @@ write_refusal l log room = list_refusal l then log_refusal log then ltb room (le
 -- "Output past the stream is unchanged." "Nothing lent changes on a refusal"
 unfoldable pub out_after : PreferenceList → List ℤ → List ℕ → List ℕ
 out_after l log out = cond (eqb (write_refusal l log (length out)) 0) (sets out 0 (stream_of l log)) out
-
--- the length or the number that an answer stands for
-abbrev pub outcome_of : WriteAnswer → Outcome ℕ
-outcome_of (Written n) = accepted n
-outcome_of (Refused k) = refused k

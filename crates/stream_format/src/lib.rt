@@ -3,10 +3,12 @@
 #![tactic(auto)]
 
 use preference::PreferenceList;
+use refusal::Refusal;
 
 // What a record says.
-#[derive(Clone, Copy)]
+#[derive(Clone, Copy, Debug, PartialEq, Eq)]
 pub enum Class {
+    // No None of an Option: the table of kinds has a row for it, kind 00.
     Unknown,
     PreferenceRecord,
     NamedRecord,
@@ -20,18 +22,16 @@ pub struct Kind {
     pub body: usize,
 }
 
-// What reading gives: its number, 0 where the stream is accepted, the byte place, the rows read and the list.
+// What an accepted stream holds: the rows read, and the wish list.
 #[derive(Clone, Copy)]
-pub struct ReadAnswer {
-    pub refusal: u8,
-    pub place: usize,
+pub struct StreamRead {
     pub rows: usize,
     pub list: PreferenceList,
 }
 
-// What writing gives: the length of the stream, or the number that the call is refused by.
-#[derive(Clone, Copy)]
-pub enum WriteAnswer {
-    Written(usize),
-    Refused(u8),
+// Why a stream is refused, and the byte place that is told with it.
+#[derive(Clone, Copy, Debug, PartialEq, Eq)]
+pub struct ReadRefusal {
+    pub refusal: Refusal,
+    pub place: usize,
 }

@@ -1,4 +1,5 @@
+pub mod LastRuns
 pub mod Log
 pub mod Part
-pub mod Runs
-pub mod Stored
+pub mod PutRuns
+pub mod Records

@@ -1,2 +1,4 @@
+pub mod Room
+pub mod Run
 pub mod Table
-pub mod Refusals
+pub mod Taken

@@ -1,33 +1,49 @@
 -- The table of kinds, as a match on the kind byte goes by it.
-use mathlib.Core.Path.{◌≡◌, refl}
-use Prim.Native.Nat.{ℕ, zero, suc, ◌<◌, ◌≤◌}
-use native.Mathlib.Omega.{arith}
+use Rattle.std.specs.Prelude.{◌≡◌, ℕ, ◌<◌, ◌≤◌}
+use Rattle.std.proofs.Common.{refl, arith}
+use Prim.Native.Nat.{zero, suc}
 use lib.ListN.{get_or-eq_default}
-use Rattle.stream_format.specs.Kinds.{kind, kinds, kind_of}
-use Rattle.stream_format.specs.declared.Class.TheVariants.{Unknown, PreferenceRecord}
+use Rattle.stream_format.specs.Kinds.{run_body, kind, kinds, kind_of}
+use Rattle.stream_format.specs.declared.Class.TheVariants.{Unknown, PreferenceRecord, NamedRecord, RunRecord}
 
-pub preferences : (k : ℕ) → 1 ≤ k → k < 6 → (kind_of k).class ≡ PreferenceRecord
+pub low : (k : ℕ) → 1 ≤ k → k < 3 → kind_of k ≡ kind PreferenceRecord 13
 unfolding kind_of kinds
-preferences zero l h = absurd (omega arith)
-preferences (suc zero) l h = refl
-preferences (suc (suc zero)) l h = refl
-preferences (suc (suc (suc zero))) l h = refl
-preferences (suc (suc (suc (suc zero)))) l h = refl
-preferences (suc (suc (suc (suc (suc zero))))) l h = refl
-preferences (suc (suc (suc (suc (suc (suc k)))))) l h = absurd (omega arith)
+low zero l h = absurd (omega arith)
+low (suc zero) l h = refl
+low (suc (suc zero)) l h = refl
+low (suc (suc (suc k))) l h = absurd (omega arith)
 
-pub thirteen : (k : ℕ) → 1 ≤ k → k < 3 → (kind_of k).body ≡ 13
+pub three : kind_of 3 ≡ kind PreferenceRecord 17
 unfolding kind_of kinds
-thirteen zero l h = absurd (omega arith)
-thirteen (suc zero) l h = refl
-thirteen (suc (suc zero)) l h = refl
-thirteen (suc (suc (suc k))) l h = absurd (omega arith)
+three = refl
 
-pub none_at_zero : (k : ℕ) → k < 1 → kind_of k ≡ kind Unknown 0
+pub four : kind_of 4 ≡ kind PreferenceRecord 21
 unfolding kind_of kinds
-none_at_zero zero h = refl
-none_at_zero (suc k) h = absurd (omega arith)
+four = refl
 
-pub none_past : (k : ℕ) → 9 ≤ k → kind_of k ≡ kind Unknown 0
+pub five : kind_of 5 ≡ kind PreferenceRecord 3
 unfolding kind_of kinds
-none_past k h = get_or-eq_default kinds (kind Unknown 0) h
+five = refl
+
+pub six : kind_of 6 ≡ kind NamedRecord 5
+unfolding kind_of kinds
+six = refl
+
+pub seven : kind_of 7 ≡ kind RunRecord run_body
+unfolding kind_of kinds
+seven = refl
+
+pub eight : kind_of 8 ≡ kind PreferenceRecord 21
+unfolding kind_of kinds
+eight = refl
+
+pub none : (k : ℕ) → k < 1 → kind_of k ≡ kind Unknown 0
+unfolding kind_of kinds
+none zero h = refl
+none (suc k) h = absurd (omega arith)
+
+pub past : (k : ℕ) → 9 ≤ k → kind_of k ≡ kind Unknown 0
+unfolding kind_of kinds
+past k h = get_or-eq_default kinds (kind Unknown 0) h
+
+pub ruleset kinds_by_range = (low, three, four, five, six, seven, eight, none, past)

@@ -1,22 +1,8 @@
 // What the kind byte of a record says.
 ghost use Rattle.std.specs.Prelude.{◌≡◌, ◌≤◌};
-ghost use Rattle.stream_format.specs.Kinds.{run_body, class_of, body_of};
-ghost use Rattle.stream_format.specs.Read.{is_unknown};
+ghost use Rattle.stream_format.specs.Kinds.{run_body, kind_byte, kind_of};
 
-use stream_format::Class;
-
-// What the record that t begins with says, by its kind byte.
-pub fn class_of(t: &[u8]) -> Class
-    ensures { result ≡ class_of t.now }
-{
-    let k = word::get_u8(t, 0);
-    match k {
-        1 | 2 | 3 | 4 | 5 | 8 => Class::PreferenceRecord,
-        6 => Class::NamedRecord,
-        7 => Class::RunRecord,
-        _ => Class::Unknown,
-    }
-}
+use stream_format::{Class, Kind};
 
 // The bytes of the longer bodies; kind 08 has BETWEEN's.
 const AROUND_BODY: usize = 17;
@@ -25,29 +11,28 @@ const BETWEEN_BODY: usize = 21;
 
 pub const RUN_BODY: usize = 32;
 
-// The bytes of its body, at most those of a run.
-pub fn body_of(t: &[u8]) -> usize
-    ensures { (result ≡ body_of t.now) × (result ≤ run_body) }
+// What a kind byte says: the table of kinds.
+#[tactic(auto, using(crate::proofs::Table::kinds_by_range))]
+fn kind(byte: u8) -> Kind
+    ensures kind { result ≡ kind_of byte }
+    ensures short { result.body ≤ run_body }
 {
-    let k = word::get_u8(t, 0);
-    match k {
-        1 | 2 => 13,
-        3 => AROUND_BODY,
-        4 | 8 => BETWEEN_BODY,
-        5 => 3,
-        6 => 5,
-        7 => RUN_BODY,
-        _ => 0,
-    }
+    let (class, body) = match byte {
+        1 | 2 => (Class::PreferenceRecord, 13),
+        3 => (Class::PreferenceRecord, AROUND_BODY),
+        4 | 8 => (Class::PreferenceRecord, BETWEEN_BODY),
+        5 => (Class::PreferenceRecord, 3),
+        6 => (Class::NamedRecord, 5),
+        7 => (Class::RunRecord, RUN_BODY),
+        _ => (Class::Unknown, 0),
+    };
+    Kind { class, body }
 }
 
-pub fn is_unknown(class: Class) -> bool
-    ensures { result ≡ is_unknown class }
+// What the record that the bytes begin with is, and the bytes of its body: at most those of a run.
+pub fn kind_of(bytes: &[u8]) -> Kind
+    ensures kind { result ≡ kind_of (kind_byte bytes.now) }
+    ensures short { result.body ≤ run_body }
 {
-    match class {
-        Class::Unknown => true,
-        Class::PreferenceRecord => false,
-        Class::NamedRecord => false,
-        Class::RunRecord => false,
-    }
+    kind(bytes.first().copied().unwrap_or(0))
 }

@@ -3,7 +3,7 @@
 // open to others: `stream_reader` meets what its calls require.
 #![tactic(auto)]
 
-pub mod checks;
 pub mod figures;
 pub mod kinds;
+pub mod reading;
 pub mod values;

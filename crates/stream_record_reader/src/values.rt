@@ -2,47 +2,26 @@
 ghost use Rattle.std.specs.Prelude.{◌≡◌, ◌+◌, ◌<◌, ◌≤◌, length};
 ghost use Rattle.std.proofs.lemmas.List.Edits.{sets};
 ghost use Rattle.word.specs.Word.{int_at};
-ghost use Rattle.stream_format.specs.Kinds.{run_body, class_of, body_of};
-ghost use Rattle.stream_format.specs.Read.{ints_at, values_under};
-
-use crate::kinds;
-use stream_format::Class;
+ghost use Rattle.stream_format.specs.Kinds.{run_body};
+ghost use Rattle.stream_format.specs.Read.{ints_at};
 
 // The signed number at a place that has its four bytes.
-fn whole_i32(t: &[u8], at: usize) -> i32
-    requires { at + 4 ≤ length t.now }
-    ensures { result ≡ int_at t.now at }
+#[tactic(auto, unfolding(word::specs::Word::word_at, word::specs::Word::int_at))]
+fn whole_i32(bytes: &[u8], at: usize) -> i32
+    requires { at + 4 ≤ length bytes.now }
+    ensures { result ≡ int_at bytes.now at }
 {
-    word::signed(word::of_bytes(t[at], t[at + 1], t[at + 2], t[at + 3]))
+    i32::from_le_bytes([bytes[at], bytes[at + 1], bytes[at + 2], bytes[at + 3]])
 }
 
-// Stores the eight values of the whole run that t begins with, where there is room for them.
-fn put_run(t: &[u8], log: &mut [i32], to: usize)
-    requires { (run_body < length t.now) × (to + 8 ≤ length log.old) }
-    ensures { log.new ≡ sets log.old to (ints_at 8 t.now 1) }
+// Stores the eight values of the whole run that the bytes begin with, where there is room for them.
+#[tactic(auto, using(crate::proofs::Run::one_by_one))]
+pub fn put_run(bytes: &[u8], log: &mut [i32], to: usize)
+    requires whole { run_body < length bytes.now }
+    requires room { to + 8 ≤ length log.old }
+    ensures { log.new ≡ sets log.old to (ints_at 8 bytes.now 1) }
 {
-    let mut i: usize = 0;
-    while i < 8 {
-        log[to + i] = whole_i32(t, 1 + 4 * i);
-        i += 1;
-    }
-}
-
-// Stores the values of the record that t begins with, if it is a run; the place after them.
-pub fn put_record(t: &[u8], log: &mut [i32], to: usize) -> usize
-    requires { (body_of t.now < length t.now)
-        × (to + length (values_under (class_of t.now) t.now) ≤ length log.old) }
-    ensures { (result ≡ to + length (values_under (class_of t.now) t.now))
-        × (log.new ≡ sets log.old to (values_under (class_of t.now) t.now)) }
-{
-    let class = kinds::class_of(t);
-    match class {
-        Class::Unknown => to,
-        Class::PreferenceRecord => to,
-        Class::NamedRecord => to,
-        Class::RunRecord => {
-            put_run(t, log, to);
-            to + 8
-        }
+    for i in 0..8 {
+        log[to + i] = whole_i32(bytes, 1 + 4 * i);
     }
 }

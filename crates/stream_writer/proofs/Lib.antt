@@ -1,2 +1,3 @@
-pub mod Answers
-pub mod Owned
+pub mod Left
+pub mod Rules
+pub mod Short

@@ -1,135 +1,84 @@
-// Writing of a preference list and a log as a stream. Each function that puts something stores its bytes at a place and
-// gives the place after them. Stores past the output's end do nothing, so that the room is one check.
+// Writing of a preference list and a log as a stream. Bytes past the output's end are stored nowhere, so that the room
+// is one check.
 #![tactic(auto)]
 
-ghost use Rattle.std.specs.Prelude.{◌≡◌, ◌+◌, ◌*◌, ◌<◌, ◌≤◌, length};
-ghost use Rattle.limits.specs.Limits.{max_values, max_wishes, max_named, max_stream_bytes, usize_end};
-ghost use Rattle.stream_format.specs.Kinds.{run_record, wish_record, named_record};
+ghost use Rattle.std.specs.Prelude.{◌≡◌, ◌≤◌, length};
+ghost use Rattle.std.proofs.lemmas.List.Edits.{sets};
+ghost use Rattle.limits.specs.Limits.{max_wishes, max_named};
 ghost use Rattle.run_log.specs.Log.{row_count, log_refusal};
 ghost use Rattle.laws.specs.Outcome.{outcome};
 ghost use Rattle.laws.specs.Lists.{joined};
+ghost use Rattle.refusal.specs.Refusal.{outcome_of};
 ghost use Rattle.preference.specs.Valid.{list_refusal};
+ghost use Rattle.output.specs.Writes.{Writes};
 ghost use Rattle.stream_format.specs.Write.{named_bytes_of, preference_records, row_bytes};
-ghost use Rattle.stream_format.specs.Write.{stream_of, write_refusal, out_after, outcome_of};
-ghost use Rattle.word.specs.Puts.{Puts};
+ghost use Rattle.stream_format.specs.Write.{stream_of, write_refusal, out_after};
 
+use output::Output;
 use preference::PreferenceList;
-use stream_format::WriteAnswer;
-
-// The named value at place k, where it belongs to the preference at place i.
-#[tactic(auto, using(crate::proofs::Owned::owned))]
-fn put_named_of(out: &mut [u8], at: usize, list: PreferenceList, i: usize, k: usize) -> usize
-    requires { (at + named_record < usize_end) × (k < max_named) }
-    ensures { Puts out.old out.new at result (named_bytes_of list i k) }
-{
-    let naming = list.named[k];
-    let owner = naming.preference;
-    if arith::wide(owner) != i {
-        return at;
-    }
-    stream_record_writer::put_named(out, at, naming)
-}
+use refusal::Refusal;
 
 // The named values of the preference at place i.
-fn put_names_of(out: &mut [u8], at: usize, list: PreferenceList, i: usize) -> usize
-    requires { (at + named_record * max_named < usize_end) × (list.namedcount ≤ max_named) }
-    ensures { Puts out.old out.new at result
-        (joined (named_bytes_of list i) list.namedcount) }
+#[tactic(auto, using(crate::proofs::Rules::places))]
+fn put_names_of(out: &mut Output<'_>, list: &PreferenceList, i: usize)
+    requires { list.now.namedcount ≤ max_named }
+    ensures { Writes out.old out.new (joined (named_bytes_of list.now i) list.now.namedcount) }
 {
-    let n = list.namedcount as usize;
-    let mut next = at;
-    let mut k: usize = 0;
-    while k < n {
-        next = put_named_of(out, next, list, i, k);
-        k += 1;
+    for naming in &list.named[..list.namedcount as usize] {
+        if usize::from(naming.preference) == i {
+            stream_record_writer::put_named(out, *naming);
+        }
     }
-    next
 }
 
-// The preference at place i, and its named values.
-fn put_records(out: &mut [u8], at: usize, list: PreferenceList, i: usize) -> usize
-    requires { (at + (wish_record + named_record * max_named) < usize_end) × (list.namedcount ≤ max_named)
-        × (i < max_wishes) }
-    ensures { Puts out.old out.new at result (preference_records list i) }
+// Each preference, and its named values.
+#[tactic(auto, using(crate::proofs::Rules::places), unfolding(stream_format::specs::Write::preference_records))]
+fn put_preferences(out: &mut Output<'_>, list: &PreferenceList)
+    requires few { list.now.count ≤ max_wishes }
+    requires few_named { list.now.namedcount ≤ max_named }
+    ensures { Writes out.old out.new (joined (preference_records list.now) list.now.count) }
 {
-    let p = list.preferences[i];
-    let next = stream_record_writer::put_preference(out, at, p);
-    put_names_of(out, next, list, i)
-}
-
-fn put_preferences(out: &mut [u8], list: PreferenceList) -> usize
-    requires { (list.count ≤ max_wishes) × (list.namedcount ≤ max_named) }
-    ensures { Puts out.old out.new 0 result (joined (preference_records list) list.count) }
-{
-    let n = list.count as usize;
-    let mut next: usize = 0;
-    let mut i: usize = 0;
-    while i < n {
-        next = put_records(out, next, list, i);
-        i += 1;
+    for (i, p) in list.preferences[..list.count as usize].iter().enumerate() {
+        stream_record_writer::put_preference(out, *p);
+        put_names_of(out, list, i);
     }
-    next
 }
 
-// Row r of the log.
-fn put_row(out: &mut [u8], at: usize, log: &[i32], r: usize) -> usize
-    requires { (at + run_record < usize_end) × (r < row_count log.now) }
-    ensures { Puts out.old out.new at result (row_bytes log.now r) }
+#[tactic(auto, using(output::specs::Laws::Writes::writing))]
+fn put_runs(out: &mut Output<'_>, log: &[i32])
+    ensures { Writes out.old out.new (joined (row_bytes log.now) (row_count log.now)) }
 {
-    stream_record_writer::put_run(out, at, run_log::row(log, r))
-}
-
-fn put_runs(out: &mut [u8], at: usize, log: &[i32]) -> usize
-    requires { (at ≤ max_stream_bytes) × (length log.now ≤ max_values) }
-    ensures { Puts out.old out.new at result
-        (joined (row_bytes log.now) (row_count log.now)) }
-{
-    let rows = run_log::row_count(log);
-    let mut next = at;
-    let mut r: usize = 0;
-    while r < rows {
-        next = put_row(out, next, log, r);
-        r += 1;
+    for r in 0..run_log::row_count(log) {
+        stream_record_writer::put_run(out, run_log::row(log, r));
     }
-    next
 }
 
-fn put_stream(out: &mut [u8], list: PreferenceList, log: &[i32]) -> usize
-    requires { (list_refusal list ≡ 0) × (log_refusal log.now ≡ 0) }
-    ensures { Puts out.old out.new 0 result (stream_of list log.now) }
+// Stores the stream from the front of the output on, as far as there is room, and gives the length of all of it.
+#[tactic(auto, using(crate::proofs::Short::few))]
+fn store(out: &mut [u8], list: &PreferenceList, log: &[i32]) -> usize
+    requires of_list { list_refusal list.now ≡ 0 }
+    requires of_log { log_refusal log.now ≡ 0 }
+    ensures length_is { result ≡ length (stream_of list.now log.now) }
+    ensures stored { out.new ≡ sets out.old 0 (stream_of list.now log.now) }
 {
-    let at = put_preferences(out, list);
-    put_runs(out, at, log)
+    let mut stream = Output::new(out);
+    put_preferences(&mut stream, list);
+    put_runs(&mut stream, log);
+    stream.at
 }
 
-// The length of the stream: where it ends when it is stored where there is no room.
-fn stream_length(list: PreferenceList, log: &[i32]) -> usize
-    requires { (list_refusal list ≡ 0) × (log_refusal log.now ≡ 0) }
-    ensures { result ≡ length (stream_of list log.now) }
+// Writes the stream of a list and a log, and gives its length. Nothing is stored before every check has passed.
+pub fn write(list: PreferenceList, log: &[i32], out: &mut [u8]) -> Result<usize, Refusal>
+    ensures answer { outcome_of result
+        ≡ outcome (write_refusal list log.now (length out.old)) (length (stream_of list log.now)) }
+    ensures left { out.new ≡ out_after list log.now out.old }
 {
-    let mut scratch: [u8; 1] = [0; 1];
-    put_stream(&mut scratch, list, log)
-}
-
-// Writes the stream of a list and a log. Nothing is stored before every check has passed.
-pub fn write(list: PreferenceList, log: &[i32], out: &mut [u8]) -> WriteAnswer
-    ensures { (outcome_of result
-        ≡ outcome (write_refusal list log.now (length out.old))
-        (length (stream_of list log.now)))
-        × (out.new ≡ out_after list log.now out.old) }
-{
-    let list_refusal = preference::refusal(list);
-    if list_refusal != 0 {
-        return WriteAnswer::Refused(list_refusal);
-    }
-    let log_refusal = run_log::refusal(log);
-    if log_refusal != 0 {
-        return WriteAnswer::Refused(log_refusal);
-    }
-    let length = stream_length(list, log);
+    preference::check(list)?;
+    run_log::check(log)?;
+    let length = store(&mut [], &list, log);
     if out.len() < length {
-        return WriteAnswer::Refused(10);
+        return Err(Refusal::NoRoom);
     }
-    put_stream(out, list, log);
-    WriteAnswer::Written(length)
+    store(out, &list, log);
+    Ok(length)
 }

@@ -1,121 +1,106 @@
-// Every row of generated logs.
-ghost use Rattle.std.specs.Prelude.{◌≤◌};
+// Every row of generated logs: 13 is due exactly where it is marked, else a row that is marked and beats it.
+use refusal::Refusal;
+use std::alloc::{AllocError, Global};
+use std::io;
+use test_support::logs::{self, Generated};
+use test_support::{counts, levels_apart, nested};
 
-use crate::rows;
-use preference::PreferenceList;
-use test_support::{figures, levels_apart, lists, logs, nested, show};
+const LOGS: u32 = 400;
 
-// What was tried so far: differences, logs refused by 8, and of the others those of sixteen level parts, their rows,
-// and those on a shortlist.
+// A log that is not refused by 8: its level parts, its rows and those on the shortlist.
 #[derive(Clone, Copy)]
-struct Tally {
-    differing: u64,
-    refused: u64,
-    sixteen: u64,
-    rows: u64,
-    best: u64,
+struct Accepted {
+    parts: usize,
+    rows: usize,
+    best: usize,
 }
 
-// Sums stop growing far above what a trial comes to.
-fn add(sum: u64, n: u64) -> u64
-    requires { n ≤ 4294967295 }
-{
-    if sum < 1000000000000 { sum + n } else { sum }
+// How a log was tried, and the answers that are not due.
+#[derive(Clone, Copy)]
+struct Tried {
+    accepted: Option<Accepted>,
+    differing: usize,
 }
 
-fn one_unless(agreed: bool) -> u64
-    ensures { result ≤ 1 }
-{
-    if agreed { 0 } else { 1 }
+fn answer_of(log: &Generated, row: u32) -> Result<u32, Refusal> {
+    dominator::of(log.list, log.numbers(), row)
+}
+
+fn is_marked(marks: &[u8], row: u32) -> bool {
+    marks.get(row as usize) == Some(&1)
+}
+
+fn beats(table: &[Vec<u32>], by: u32, row: u32) -> bool {
+    match (table.get(by as usize), table.get(row as usize)) {
+        (Some(best), Some(other)) => nested::beats(best.as_slice(), other.as_slice()),
+        _ => false,
+    }
+}
+
+fn is_due(answer: Result<u32, Refusal>, table: &[Vec<u32>], marks: &[u8], row: u32) -> bool {
+    match answer {
+        Ok(by) => !is_marked(marks, row) && is_marked(marks, by) && beats(table, by, row),
+        Err(refusal) => refusal == Refusal::Shortlisted && is_marked(marks, row),
+    }
 }
 
 // A log with a value outside its bounds: 8, of a row and past the rows.
-fn refused(list: PreferenceList, log: &[i32], rows: u32, t: Tally) -> Tally {
-    let bad = one_unless(rows::is_refused(list, log, 0, 8) & rows::is_refused(list, log, rows, 8));
-    Tally {
-        differing: add(t.differing, bad),
-        refused: add(t.refused, 1),
-        sixteen: t.sixteen,
-        rows: t.rows,
-        best: t.best,
+fn refused(log: &Generated) -> Tried {
+    let agreed = answer_of(log, 0) == Err(Refusal::OutsideBounds)
+        && answer_of(log, log.row_count()) == Err(Refusal::OutsideBounds);
+    Tried {
+        accepted: None,
+        differing: usize::from(!agreed),
     }
 }
 
 // Any other log: what is due of each row, and 12 past them.
-fn accepted(list: PreferenceList, log: &[i32], rows: u32, t: Tally) -> Tally
-    requires { rows ≤ 40 }
-{
-    let mut table = [0u32; 640];
-    let mut marks = [0u8; 40];
-    nested::fill_levels(list, log, &mut table);
-    nested::fill_marks(&table, rows as usize, &mut marks);
-    let bad = rows::differing(list, log, &table, &marks, rows);
-    let past = one_unless(rows::is_refused(list, log, rows, 12));
-    Tally {
-        differing: add(t.differing, bad + past),
-        refused: t.refused,
-        sixteen: add(t.sixteen, one_unless(levels_apart::parts_of(list) != 16)),
-        rows: add(t.rows, rows as u64),
-        best: add(t.best, rows::marked(&marks)),
-    }
-}
-
-fn tried(list: PreferenceList, log: &[i32], rows: u32, t: Tally) -> Tally
-    requires { rows ≤ 40 }
-{
-    if nested::strays(list, log) {
-        return refused(list, log, rows, t);
-    }
-    accepted(list, log, rows, t)
-}
-
-// The same of the first rows of a log.
-fn tried_front(list: PreferenceList, log: &[i32], rows: usize, t: Tally) -> Tally
-    requires { rows ≤ 40 }
-{
-    if log.len() / 8 < rows {
-        return t;
-    }
-    let end = 8 * rows;
-    tried(list, &log[..end], rows as u32, t)
-}
-
-fn tried_seed(seed: u32, t: Tally) -> Tally {
-    let mut log = [0i32; 320];
-    logs::fill_log(seed, &mut log);
-    tried_front(lists::list_of(seed), &log, logs::rows_of(seed), t)
-}
-
-fn show_totals(t: Tally) {
-    show::text(b" refused 8:");
-    show::number(t.refused);
-    show::text(b" sixteen parts:");
-    show::number(t.sixteen);
-    show::text(b" rows");
-    show::number(t.rows);
-    show::text(b" refused 13:");
-    show::number(t.best);
-    show::text(b" differing");
-    show::number(t.differing);
-    show::end_line();
-}
-
-pub fn all() {
-    let mut seed: u32 = 1;
-    let mut t = Tally {
-        differing: 0,
-        refused: 0,
-        sixteen: 0,
-        rows: 0,
-        best: 0,
+fn try_accepted(alloc: Global, log: &Generated) -> Result<Tried, AllocError> {
+    let table = nested::table_of(alloc, log.list, log.rows.as_slice())?;
+    let marks = nested::marks_of(alloc, table.as_slice())?;
+    let rows = log.row_count();
+    let differing = (0..rows)
+        .filter(|row| !is_due(
+            answer_of(log, *row),
+            table.as_slice(),
+            marks.as_slice(),
+            *row,
+        ))
+        .count();
+    let past = usize::from(answer_of(log, rows) != Err(Refusal::NoSuchRow));
+    let accepted = Accepted {
+        parts: levels_apart::tops_of(alloc, log.list)?.len(),
+        rows: rows as usize,
+        best: marks.iter().filter(|mark| **mark == 1).count(),
     };
-    let mut tried: u64 = 0;
-    while tried < 400 {
-        t = tried_seed(seed, t);
-        seed = figures::next(seed);
-        tried += 1;
+    Ok(Tried {
+        accepted: Some(accepted),
+        differing: differing.saturating_add(past),
+    })
+}
+
+fn try_log(alloc: Global, log: &Generated) -> Result<Tried, AllocError> {
+    if nested::strays(log.list, log.rows.as_slice()) {
+        Ok(refused(log))
+    } else {
+        try_accepted(alloc, log)
     }
-    show::text(b"generated logs");
-    show::number(tried);
-    show_totals(t);
+}
+
+fn sixteen(tried: &Tried) -> bool {
+    tried.accepted.is_some_and(|log| log.parts == 16)
+}
+
+pub fn all(rt: &(impl Print + AllocGlobal)) -> io::Result<()> {
+    let alloc = rt.alloc();
+    let all = logs::try_each(alloc, LOGS, |log| try_log(alloc, log))?;
+    let all = all.as_slice();
+    println!(rt;
+        "generated logs {LOGS} refused 8: {} sixteen parts: {} rows {} refused 13: {} differing {}",
+        counts::total(all, |t| usize::from(t.accepted.is_none())),
+        counts::total(all, |t| usize::from(sixteen(t))),
+        counts::total(all, |t| t.accepted.map_or(0, |log| log.rows)),
+        counts::total(all, |t| t.accepted.map_or(0, |log| log.best)),
+        counts::total(all, |t| t.differing)
+    )
 }

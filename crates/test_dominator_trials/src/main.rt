@@ -3,11 +3,12 @@
 // stdout were found by a model that is not part of this repository.
 #![tactic(auto)]
 
+use std::io;
+
 mod harbour;
 mod logs;
-mod rows;
 
-fn main() {
-    harbour::all();
-    logs::all();
+fn main(rt: HostRuntime) -> io::Result<()> {
+    harbour::all(&rt)?;
+    logs::all(&rt)
 }

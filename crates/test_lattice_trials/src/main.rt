@@ -1,10 +1,11 @@
 // Tries the lattice engine on generated logs against a model written apart, and says which cases came.
 #![tactic(auto)]
 
+use std::io;
+
 mod model;
-mod spread;
 mod trials;
 
-fn main() {
-    trials::generated();
+fn main(rt: HostRuntime) -> io::Result<()> {
+    trials::generated(&rt)
 }

@@ -1,130 +1,73 @@
-// Node bytes and crossings, found by comparing every node with every row. Level vectors lie in tables of sixteen parts
-// each.
-ghost use Rattle.std.specs.Prelude.{◌<◌, ◌≤◌};
-
+// Node bytes and crossings, found by comparing every node with every row.
+use std::alloc::{AllocError, Global};
 use test_support::nested;
 
-fn put(digits: &mut [u32], at: usize, v: u32) {
-    if at < digits.len() {
-        digits[at] = v;
-    }
-}
-
-fn put_byte(nodes: &mut [u8], at: usize, b: u8) {
-    if at < nodes.len() {
-        nodes[at] = b;
-    }
-}
+const MOST_NODES: u32 = 32768;
 
 // The digits of the next node, the last digit first; false past the last node.
 fn advance(digits: &mut [u32], tops: &[u32]) -> bool {
-    let mut k: usize = 16;
-    while 0 < k {
-        k -= 1;
-        let d = nested::part(digits, 0, k);
-        if d < nested::part(tops, 0, k) {
-            put(digits, k, d + 1);
+    for (digit, top) in digits.iter_mut().zip(tops).rev() {
+        if *digit < *top {
+            *digit += 1;
             return true;
         }
-        put(digits, k, 0);
+        *digit = 0;
     }
     false
 }
 
-// The number of nodes; 32,769 where there are more than 32,768.
-pub fn count(tops: &[u32]) -> usize
-    ensures { (0 < result) × (result ≤ 32769) }
-{
-    let mut digits = [0u32; 16];
-    let mut x: usize = 1;
-    while x < 32769 {
-        if !advance(&mut digits, tops) {
-            return x;
+// The number of nodes, where they are not too many.
+pub fn count(alloc: Global, tops: &[u32]) -> Result<Option<u32>, AllocError> {
+    let mut digits = vec![in alloc; 0; tops.len()]?;
+    for n in 1..=MOST_NODES {
+        if !advance(digits.as_mut_slice(), tops) {
+            return Ok(Some(n));
         }
-        x += 1;
     }
-    x
+    Ok(None)
 }
 
-fn one_if_below(p: u32, q: u32) -> u32
-    ensures { result ≤ 1 }
-{
-    if p < q { 1 } else { 0 }
+// The byte of a node: 1 where a row holds it, and 2 where one is better.
+fn byte_of(table: &[Vec<u32>], digits: &[u32]) -> u8 {
+    let own = table.iter().any(|levels| levels.as_slice() == digits);
+    u8::from(own) + 2 * u8::from(nested::is_beaten(table, digits))
 }
 
 // The edges that leave a node: the parts whose digit is below its greatest level.
-fn leaving(digits: &[u32], tops: &[u32]) -> u32
-    ensures { result ≤ 16 }
-{
-    let mut n: u32 = 0;
-    let mut k: usize = 0;
-    while k < 16 {
-        n += one_if_below(nested::part(digits, 0, k), nested::part(tops, 0, k));
-        k += 1;
-    }
-    n
+fn leaving(digits: &[u32], tops: &[u32]) -> u32 {
+    digits
+        .iter()
+        .zip(tops)
+        .map(|(digit, top)| u32::from(digit < top))
+        .fold(0, u32::saturating_add)
 }
 
-// The edges crossed from a node with byte b.
-fn crossed(b: u8, digits: &[u32], tops: &[u32]) -> u32
-    ensures { result ≤ 16 }
-{
-    if b == 0 {
-        return 0;
-    }
-    leaving(digits, tops)
+// The bytes of the nodes, and the edges that leave reached ones.
+#[derive(Drop)]
+pub struct Nodes {
+    pub bytes: Vec<u8>,
+    pub crossed: u32,
 }
 
-fn equals(table: &[u32], r: usize, digits: &[u32]) -> bool {
-    let mut equal = true;
-    let mut k: usize = 0;
-    while k < 16 {
-        equal = equal & (nested::part(table, r, k) == nested::part(digits, 0, k));
-        k += 1;
+pub fn nodes_of(
+    alloc: Global,
+    table: &[Vec<u32>],
+    tops: &[u32],
+    count: u32,
+) -> Result<Nodes, AllocError> {
+    let mut digits = vec![in alloc; 0; tops.len()]?;
+    let mut nodes = Nodes {
+        bytes: Vec::new(alloc),
+        crossed: 0,
+    };
+    for _ in 0..count {
+        let byte = byte_of(table, digits.as_slice());
+        nodes.bytes.push(byte)?;
+        if byte != 0 {
+            let edges = leaving(digits.as_slice(), tops);
+            nodes.crossed = nodes.crossed.saturating_add(edges);
+        }
+        advance(digits.as_mut_slice(), tops);
     }
-    equal
-}
-
-// Whether a row has the node's levels.
-fn held(table: &[u32], rows: usize, digits: &[u32]) -> bool {
-    let mut found = false;
-    let mut r: usize = 0;
-    while r < rows {
-        found = found | equals(table, r, digits);
-        r += 1;
-    }
-    found
-}
-
-fn byte_of(table: &[u32], rows: usize, digits: &[u32]) -> u8 {
-    let own = held(table, rows, digits);
-    if nested::beaten(table, rows, digits, 0) {
-        return if own { 3 } else { 2 };
-    }
-    if own { 1 } else { 0 }
-}
-
-// Writes the bytes of n nodes, and gives the number of the edges that leave reached ones.
-pub fn fill_nodes(table: &[u32], rows: usize, tops: &[u32], n: usize, nodes: &mut [u8]) -> u32
-    requires { n ≤ 32768 }
-{
-    let mut digits = [0u32; 16];
-    let mut edges: u32 = 0;
-    let mut x: usize = 0;
-    while x < n {
-        let b = byte_of(table, rows, &digits);
-        put_byte(nodes, x, b);
-        edges += crossed(b, &digits, tops);
-        advance(&mut digits, tops);
-        x += 1;
-    }
-    edges
-}
-
-pub fn fill_zeros(n: usize, nodes: &mut [u8]) {
-    let mut x: usize = 0;
-    while x < n {
-        put_byte(nodes, x, 0);
-        x += 1;
-    }
+    Ok(nodes)
 }

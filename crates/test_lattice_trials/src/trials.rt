@@ -1,172 +1,180 @@
 // Generated logs: what the engine comes back as and leaves in the lent bytes, against the model. Marks and node bytes
 // are lent longer than needed, so that what lies past the ends is compared too.
-ghost use Rattle.std.specs.Prelude.{◌<◌, ◌≤◌};
-
-use crate::spread::{Spread, Tried};
-use crate::{model, spread};
-use lattice::LatticeAnswer;
-use preference::PreferenceList;
+use crate::model;
+use refusal::Refusal;
+use std::alloc::{AllocError, Global};
+use std::io;
+use test_support::logs::{self, Generated};
 use test_support::{lent, levels_apart, nested};
+
+const LOGS: u32 = 1000;
 
 // What the lent bytes hold before a call.
 const KEPT: u8 = 238;
 
-// The crossings, or 1,000,000 and the number that the call is refused by.
-fn code(answer: LatticeAnswer) -> u64 {
-    match answer {
-        LatticeAnswer::Crossed(n) => n as u64,
-        LatticeAnswer::Refused(k) => 1000000 + k as u64,
-    }
-}
+const MARKS: usize = 48;
 
-// Whether the engine comes back as told and leaves these marks and node bytes.
+const NODES: usize = 32776;
+
+// Whether the engine comes back as is due and leaves these marks and node bytes.
 fn leaves(
-    list: PreferenceList,
-    log: &[i32],
+    log: &Generated,
     budget: u32,
-    told: u64,
-    marks: &[u8],
-    nodes: &[u8],
+    due: Result<u32, Refusal>,
+    due_marks: &[u8],
+    due_nodes: &[u8],
 ) -> bool {
-    let mut m = [KEPT; 48];
-    let mut x = [KEPT; 32776];
-    let got = lattice::run(list, log, &mut m, &mut x, budget);
-    (code(got) == told) & lent::same(&m, marks) & lent::same(&x, nodes)
+    let mut marks = [KEPT; MARKS];
+    let mut nodes = [KEPT; NODES];
+    let answer = lattice::run(log.list, log.numbers(), &mut marks, &mut nodes, budget);
+    answer == due && lent::holds(&marks, due_marks, KEPT) && lent::holds(&nodes, due_nodes, KEPT)
 }
 
-// The engine lent the first m mark bytes and the first x node bytes; refused by 99 where there are not so many.
-fn run_front(
-    list: PreferenceList,
-    log: &[i32],
-    marks: &mut [u8],
-    nodes: &mut [u8],
-    m: usize,
-    x: usize,
-) -> LatticeAnswer {
-    if marks.len() < m {
-        return LatticeAnswer::Refused(99);
-    }
-    if nodes.len() < x {
-        return LatticeAnswer::Refused(99);
-    }
-    lattice::run(list, log, &mut marks[..m], &mut nodes[..x], 4294967295)
-}
-
-// Whether the engine, lent m mark bytes and x node bytes, is refused by a number and keeps every byte.
-fn refuses(list: PreferenceList, log: &[i32], m: usize, x: usize, refusal: u8) -> bool {
-    let mut marks = [KEPT; 48];
-    let mut nodes = [KEPT; 32776];
-    let got = run_front(list, log, &mut marks, &mut nodes, m, x);
-    let kept = (lent::others(&marks, KEPT) == 0) & (lent::others(&nodes, KEPT) == 0);
-    (code(got) == 1000000 + refusal as u64) & kept
+// Whether the engine, lent so many mark and node bytes, refuses for this and keeps every byte.
+fn refuses(log: &Generated, refusal: Refusal, marks_lent: usize, nodes_lent: usize) -> bool {
+    let mut marks = [KEPT; MARKS];
+    let mut nodes = [KEPT; NODES];
+    let answer = lattice::run(
+        log.list,
+        log.numbers(),
+        &mut marks[..marks_lent.min(MARKS)],
+        &mut nodes[..nodes_lent.min(NODES)],
+        u32::MAX,
+    );
+    answer == Err(refusal) && lent::changed(&marks, KEPT) == 0 && lent::changed(&nodes, KEPT) == 0
 }
 
 // Marks one byte short of the rows, which comes before 8 and 9.
-fn refuses_marks(list: PreferenceList, log: &[i32]) -> bool {
-    let rows = log.len() / 8;
-    if rows == 0 {
-        return true;
+fn refuses_marks(log: &Generated) -> bool {
+    match log.rows.len() {
+        0 => true,
+        rows => refuses(log, Refusal::NoRoom, rows - 1, NODES),
     }
-    refuses(list, log, rows - 1, 32776, 10)
+}
+
+#[derive(Clone, Copy, PartialEq, Eq)]
+struct Accepted {
+    parts: usize,
+    crossed: u32,
+}
+
+// How a log was tried: whether it is refused by 8 or 9, or accepted with so many level parts and crossings.
+#[derive(Clone, Copy)]
+struct Tried {
+    due: Result<Accepted, Refusal>,
+    rows: usize,
+    agreed: bool,
 }
 
 // Refused by 8 or 9, which comes before a lack of node bytes.
-fn refused_by(list: PreferenceList, log: &[i32], refusal: u8) -> Tried {
+fn refused(log: &Generated, refusal: Refusal) -> Tried {
     Tried {
-        rows: log.len() / 8,
-        parts: 0,
-        refusal: refusal,
-        agreed: refuses(list, log, 48, 32776, refusal)
-            & refuses(list, log, 48, 0, refusal)
-            & refuses_marks(list, log),
+        due: Err(refusal),
+        rows: log.rows.len(),
+        agreed: refuses(log, refusal, MARKS, NODES)
+            && refuses(log, refusal, MARKS, 0)
+            && refuses_marks(log),
     }
 }
 
-// Refused by 11: node bytes 0, marks kept.
-fn refuses_11(list: PreferenceList, log: &[i32], budget: u32, n: usize) -> bool {
-    let m = [KEPT; 48];
-    let mut x = [KEPT; 32776];
-    model::fill_zeros(n, &mut x);
-    leaves(list, log, budget, 1000011, &m, &x)
-}
-
-// The call with the crossings that the model counts over n nodes as its budget, with one fewer, and with one byte
-// fewer.
-fn settled(
-    list: PreferenceList,
-    log: &[i32],
-    table: &[u32],
+// The call with the crossings that the model counts as its budget, with one fewer, and with one byte fewer.
+fn try_accepted(
+    alloc: Global,
+    log: &Generated,
     tops: &[u32],
-    parts: usize,
-    n: usize,
-) -> Tried
-    requires { (0 < n) × (n ≤ 32768) }
+    count: u32,
+) -> Result<Tried, AllocError> {
+    let table = nested::table_of(alloc, log.list, log.rows.as_slice())?;
+    let marks = nested::marks_of(alloc, table.as_slice())?;
+    let nodes = model::nodes_of(alloc, table.as_slice(), tops, count)?;
+    let bytes = nodes.bytes.as_slice();
+    let crossed = nodes.crossed;
+    let mut agreed = refuses_marks(log)
+        && refuses(log, Refusal::NoRoom, MARKS, bytes.len().saturating_sub(1))
+        && leaves(log, crossed, Ok(crossed), marks.as_slice(), bytes);
+    if let Some(fewer) = crossed.checked_sub(1) {
+        // Refused by 11: node bytes 0, marks kept.
+        let zeros = vec![in alloc; 0; bytes.len()]?;
+        agreed = agreed && leaves(log, fewer, Err(Refusal::OverBudget), &[], zeros.as_slice());
+    }
+    let parts = tops.len();
+    Ok(Tried {
+        due: Ok(Accepted { parts, crossed }),
+        rows: log.rows.len(),
+        agreed,
+    })
+}
+
+fn try_log(alloc: Global, log: &Generated) -> Result<Tried, AllocError> {
+    if nested::strays(log.list, log.rows.as_slice()) {
+        return Ok(refused(log, Refusal::OutsideBounds));
+    }
+    let tops = levels_apart::tops_of(alloc, log.list)?;
+    match model::count(alloc, tops.as_slice())? {
+        Some(count) => try_accepted(alloc, log, tops.as_slice(), count),
+        None => Ok(refused(log, Refusal::TooManyNodes)),
+    }
+}
+
+// How many of the logs are of a kind.
+fn show_count<F: Fn(&Tried) -> bool>(
+    rt: &impl Print,
+    label: &str,
+    tried: &[Tried],
+    is_so: F,
+) -> io::Result<()>
+    requires { F.IsAlwaysCallable is_so }
 {
-    let rows = log.len() / 8;
-    let mut m = [KEPT; 48];
-    let mut x = [KEPT; 32776];
-    nested::fill_marks(table, rows, &mut m);
-    let edges = model::fill_nodes(table, rows, tops, n, &mut x);
-    let short = refuses_marks(list, log) & refuses(list, log, 48, n - 1, 10);
-    let good = short & leaves(list, log, edges, edges as u64, &m, &x);
-    if edges == 0 {
-        return Tried {
-            rows: rows,
-            parts: parts,
-            refusal: 0,
-            agreed: good,
-        };
-    }
-    Tried {
-        rows: rows,
-        parts: parts,
-        refusal: 11,
-        agreed: good & refuses_11(list, log, edges - 1, n),
-    }
+    let count = tried.iter().filter(|one| is_so(*one)).count();
+    println!(rt; "{label} {count}")
 }
 
-fn tried(list: PreferenceList, log: &[i32]) -> Tried {
-    if nested::strays(list, log) {
-        return refused_by(list, log, 8);
-    }
-    let mut table = [0u32; 640];
-    let mut tops = [0u32; 16];
-    nested::fill_levels(list, log, &mut table);
-    let parts = levels_apart::fill_tops(list, &mut tops);
-    let n = model::count(&tops);
-    if 32768 < n {
-        return refused_by(list, log, 9);
-    }
-    settled(list, log, &table, &tops, parts, n)
+fn has_parts(tried: &Tried, least: usize) -> bool {
+    tried.due.is_ok_and(|accepted| least <= accepted.parts)
 }
 
-// The same of the first rows of a log.
-fn tried_front(list: PreferenceList, log: &[i32], rows: usize) -> Tried {
-    if log.len() / 8 < rows {
-        return tried(list, log);
-    }
-    let end = 8 * rows;
-    tried(list, &log[..end])
+fn show(rt: &impl Print, tried: &[Tried]) -> io::Result<()> {
+    let stray = Err(Refusal::OutsideBounds);
+    let many = Err(Refusal::TooManyNodes);
+    show_count(rt, "generated logs", tried, |_| true)?;
+    show_count(rt, "without rows", tried, |t| t.rows == 0)?;
+    show_count(
+        rt,
+        "refused 10 with one mark byte fewer",
+        tried,
+        |t| t.rows != 0,
+    )?;
+    show_count(rt, "refused 8", tried, |t| t.due == stray)?;
+    show_count(rt, "refused 9", tried, |t| t.due == many)?;
+    show_count(
+        rt,
+        "refused 10 with one node byte fewer",
+        tried,
+        |t| t.due.is_ok(),
+    )?;
+    show_count(
+        rt,
+        "refused 11 with one crossing fewer, accepted with all",
+        tried,
+        |t| t.due.is_ok_and(|accepted| accepted.crossed != 0),
+    )?;
+    show_count(
+        rt,
+        "accepted with more than eight level parts",
+        tried,
+        |t| has_parts(t, 9),
+    )?;
+    show_count(
+        rt,
+        "accepted with sixteen level parts",
+        tried,
+        |t| has_parts(t, 16),
+    )?;
+    show_count(rt, "differing", tried, |t| !t.agreed)
 }
 
-fn trial_of(seed: u32) -> Tried {
-    let mut log = [0i32; 320];
-    test_support::logs::fill_log(seed, &mut log);
-    tried_front(
-        test_support::lists::list_of(seed),
-        &log,
-        test_support::logs::rows_of(seed),
-    )
-}
-
-pub fn generated() {
-    let mut spread = spread::none();
-    let mut seed: u32 = 1;
-    let mut n: u32 = 0;
-    while n < 1000 {
-        spread = spread::with(spread, trial_of(seed));
-        seed = test_support::figures::next(seed);
-        n += 1;
-    }
-    spread::show_spread(spread);
+pub fn generated(rt: &(impl Print + AllocGlobal)) -> io::Result<()> {
+    let alloc = rt.alloc();
+    let tried = logs::try_each(alloc, LOGS, |log| try_log(alloc, log))?;
+    show(rt, tried.as_slice())
 }

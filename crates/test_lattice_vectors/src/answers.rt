@@ -1,32 +1,24 @@
 // What a call of the engine comes back as.
-use lattice::LatticeAnswer;
-use test_support::show;
+use refusal::Refusal;
+use std::fmt;
+use test_support::show::Answer;
 
-pub fn show_answer(answer: LatticeAnswer) {
-    match answer {
-        LatticeAnswer::Crossed(n) => {
-            show::text(b" crossed");
-            show::number(n as u64);
-        }
-        LatticeAnswer::Refused(k) => {
-            show::text(b" refused");
-            show::number(k as u64);
-        }
-    }
-}
-
-fn show_if_held(b: u8, x: usize) {
-    if (b == 1) | (b == 3) {
-        show::number(x as u64);
-    }
+pub fn told(answer: Result<u32, Refusal>) -> Answer<'static> {
+    Answer("crossed", answer)
 }
 
 // The numbers of the nodes that rows hold.
-pub fn show_held(nodes: &[u8]) {
-    show::text(b" held");
-    let mut x: usize = 0;
-    while x < nodes.len() {
-        show_if_held(nodes[x], x);
-        x += 1;
+#[derive(Clone, Copy)]
+pub struct Held<'a>(pub &'a [u8]);
+
+impl fmt::Display for Held<'_> {
+    fn fmt<W: fmt::Write>(&self, f: &mut fmt::Formatter<W>) -> fmt::Result {
+        write!(f, " held")?;
+        for (x, byte) in self.0.iter().enumerate() {
+            if *byte == 1 || *byte == 3 {
+                write!(f, " {x}")?;
+            }
+        }
+        Ok(())
     }
 }

@@ -2,6 +2,8 @@
 // with its source, and the file stdout holds the documents' figures.
 #![tactic(auto)]
 
+use std::io;
+
 mod answers;
 mod counts;
 mod edges;
@@ -10,19 +12,19 @@ mod lists;
 mod numbers;
 mod table;
 
-fn main() {
-    counts::of_000();
-    counts::of_003();
-    edges::of_000();
-    numbers::of_000();
-    table::of_000();
-    harbour::of_01();
-    of_02();
+fn of_02(rt: &impl Print) -> io::Result<()> {
+    counts::of_02(rt)?;
+    edges::of_02(rt)?;
+    numbers::of_02(rt)?;
+    harbour::of_02(rt)
 }
 
-fn of_02() {
-    counts::of_02();
-    edges::of_02();
-    numbers::of_02();
-    harbour::of_02();
+fn main(rt: HostRuntime) -> io::Result<()> {
+    counts::of_000(&rt)?;
+    counts::of_003(&rt)?;
+    edges::of_000(&rt)?;
+    numbers::of_000(&rt)?;
+    table::of_000(&rt)?;
+    harbour::of_01(&rt)?;
+    of_02(&rt)
 }

@@ -3,16 +3,18 @@
 // figures: marks by row, counted from 0 where the documents count from 1.
 #![tactic(auto)]
 
+use std::io;
+
 mod cars;
 mod john;
 mod level_tables;
 mod matches;
 mod thin_and_thick;
 
-fn main() {
-    cars::of_000();
-    john::of_000();
-    level_tables::of_000();
-    cars::of_003();
-    thin_and_thick::of_02();
+fn main(rt: HostRuntime) -> io::Result<()> {
+    cars::of_000(&rt)?;
+    john::of_000(&rt)?;
+    level_tables::of_000(&rt)?;
+    cars::of_003(&rt)?;
+    thin_and_thick::of_02(&rt)
 }

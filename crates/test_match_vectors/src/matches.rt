@@ -1,97 +1,108 @@
 // One line for a table: the marks by both engines, and for each row that is beaten a best row that beats it.
-use dominator::DominatorAnswer;
-use lattice::LatticeAnswer;
-use preference::{LevelAnswer, PreferenceList};
-use test_support::{lent, show};
-use window::WindowAnswer;
+use preference::PreferenceList;
+use refusal::Refusal;
+use std::io;
+use test_support::lent;
+use test_support::show::{Refused, Spaced};
 
-fn show_refused(k: u8) {
-    show::text(b" refused");
-    show::number(k as u64);
-}
-
-fn show_lattice(list: PreferenceList, log: &[i32]) {
-    let mut marks = [238u8; 8];
+fn lattice_marks(list: PreferenceList, log: &[i32], marks: &mut [u8]) -> Result<u32, Refusal> {
     let mut nodes = [238u8; 32768];
-    let answer = lattice::run(list, log, &mut marks, &mut nodes, 262144);
-    show::text(b" lattice");
-    match answer {
-        LatticeAnswer::Crossed(_) => lent::show_front(&marks, log.len() / 8),
-        LatticeAnswer::Refused(k) => show_refused(k),
-    }
+    lattice::run(list, log, marks, &mut nodes, 262144)
 }
 
-fn show_window(list: PreferenceList, log: &[i32]) {
-    let mut marks = [238u8; 8];
+fn window_marks(
+    list: PreferenceList,
+    log: &[i32],
+    marks: &mut [u8],
+    w: u32,
+) -> Result<u32, Refusal> {
     let mut work = [0u32; 160];
-    let answer = window::run(list, log, &mut marks, &mut work, 64);
-    show::text(b" window");
-    match answer {
-        WindowAnswer::Compared(_) => lent::show_front(&marks, log.len() / 8),
-        WindowAnswer::Refused(k) => show_refused(k),
+    window::run(list, log, marks, &mut work, w)
+}
+
+// The marks of so many rows that an engine leaves, or its refusal.
+fn show_marks<F: FnOnce(&mut [u8]) -> Result<u32, Refusal>>(
+    rt: &impl Print,
+    label: &str,
+    rows: usize,
+    engine: F,
+) -> io::Result<()>
+    requires { F.IsAlwaysCallable engine }
+{
+    let mut marks = [238u8; 8];
+    match engine(&mut marks) {
+        Ok(_) => print!(rt; " {label}{}", Spaced(lent::front(&marks, rows))),
+        Err(refusal) => print!(rt; " {label} {}", Refused(refusal)),
     }
 }
 
 // A row on the shortlist that beat it, which one is free; `best` where the row is on it itself.
-fn show_dominator(list: PreferenceList, log: &[i32], row: u32) {
-    let answer = dominator::of(list, log, row);
-    match answer {
-        DominatorAnswer::Row(s) => show::number(s as u64),
-        DominatorAnswer::Refused(k) => if k == 13 {
-            show::text(b" best");
-        } else {
-            show_refused(k);
-        },
+fn show_dominator(rt: &impl Print, list: PreferenceList, log: &[i32], row: u32) -> io::Result<()> {
+    match dominator::of(list, log, row) {
+        Ok(by) => print!(rt; " {by}"),
+        Err(Refusal::Shortlisted) => print!(rt; " best"),
+        Err(refusal) => print!(rt; " {}", Refused(refusal)),
     }
 }
 
-fn show_dominators(list: PreferenceList, log: &[i32]) {
-    show::text(b" beaten by");
-    let rows = log.len() / 8;
-    let mut r: usize = 0;
-    while r < rows {
-        show_dominator(list, log, (r % 4294967296) as u32);
-        r += 1;
+pub fn show_matches(
+    rt: &impl Print,
+    label: &str,
+    list: PreferenceList,
+    rows: &[[i32; 8]],
+) -> io::Result<()> {
+    let log = rows.as_flattened();
+    print!(rt; "{label}")?;
+    show_marks(
+        rt,
+        "lattice",
+        rows.len(),
+        |marks| lattice_marks(list, log, marks),
+    )?;
+    show_marks(
+        rt,
+        "window",
+        rows.len(),
+        |marks| window_marks(list, log, marks, 64),
+    )?;
+    print!(rt; " beaten by")?;
+    for (row, _) in (0..u32::MAX).zip(rows) {
+        show_dominator(rt, list, log, row)?;
     }
-}
-
-pub fn show_matches(label: &[u8], list: PreferenceList, log: &[i32]) {
-    show::text(label);
-    show_lattice(list, log);
-    show_window(list, log);
-    show_dominators(list, log);
-    show::end_line();
-}
-
-fn show_compares(list: PreferenceList, log: &[i32], w: u32) {
-    let mut marks = [238u8; 8];
-    let mut work = [0u32; 160];
-    let answer = window::run(list, log, &mut marks, &mut work, w);
-    show::text(b" w");
-    show::number(w as u64);
-    match answer {
-        WindowAnswer::Compared(n) => show::number(n as u64),
-        WindowAnswer::Refused(k) => show_refused(k),
-    }
+    println!(rt)
 }
 
 // The compares that the window engine makes with windows of 2 and of 8.
-pub fn show_windows(label: &[u8], list: PreferenceList, log: &[i32]) {
-    show::text(label);
-    show_compares(list, log, 2);
-    show_compares(list, log, 8);
-    show::end_line();
-}
-
-fn level_of(list: PreferenceList, place: u32, value: i32) -> u64 {
-    let answer = levels::level(list, place, value);
-    match answer {
-        LevelAnswer::Level(n, _) => n as u64,
-        LevelAnswer::Refused(_) => 1000000,
+pub fn show_windows(
+    rt: &impl Print,
+    label: &str,
+    list: PreferenceList,
+    rows: &[[i32; 8]],
+) -> io::Result<()> {
+    print!(rt; "{label}")?;
+    for w in [2, 8] {
+        let mut marks = [238u8; 8];
+        match window_marks(list, rows.as_flattened(), &mut marks, w) {
+            Ok(n) => print!(rt; " w {w} {n}")?,
+            Err(refusal) => print!(rt; " w {w} {}", Refused(refusal))?,
+        }
     }
+    println!(rt)
 }
 
-// The sum of a row's levels: a at place 0 and b at place 1.
-pub fn show_sum(list: PreferenceList, a: i32, b: i32) {
-    show::number(level_of(list, 0, a) % 4294967296 + level_of(list, 1, b) % 4294967296);
+// The sums of the levels of rows: of a value at place 0 and one at place 1.
+pub fn show_sums(
+    rt: &impl Print,
+    label: &str,
+    list: PreferenceList,
+    values: &[(i32, i32)],
+) -> io::Result<()> {
+    print!(rt; "{label}")?;
+    for (a, b) in values {
+        match (levels::level(list, 0, *a), levels::level(list, 1, *b)) {
+            (Ok(a), Ok(b)) => print!(rt; " {}", u64::from(a.level) + u64::from(b.level))?,
+            (Err(refusal), _) | (_, Err(refusal)) => print!(rt; " {}", Refused(refusal))?,
+        }
+    }
+    println!(rt)
 }

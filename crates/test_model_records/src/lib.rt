@@ -1,295 +1,238 @@
 // A reader's verdict on a stream, written apart from the reader, from document 01 and order 2 of document 02 alone: no
-// type, rule or number is shared. Signed numbers are held with their top bit turned, which keeps their order among
-// unsigned ones. Proved safe and ending, no more.
+// type, rule or number is shared. Proved safe and ending, no more.
 #![tactic(auto)]
 
-ghost use Rattle.std.specs.Prelude.{◌<◌, ◌≤◌, ◌+◌, length};
+ghost use Rattle.std.specs.Prelude.{◌≤◌, length, IfOk};
 
-#[derive(Clone, Copy)]
-pub struct Verdict {
-    pub refusal: u32,
+const MOST_NAMES: usize = 64;
+
+const MOST_ROWS: usize = 1024;
+
+// Why a stream is refused, by document 01's numbers.
+#[derive(Clone, Copy, PartialEq, Eq)]
+pub enum Fault {
+    NoWish = 1,
+    UnknownKind = 2,
+    OutOfOrder = 3,
+    CutShort = 4,
+    Column = 5,
+    Figures = 6,
+    TooMuch = 7,
+    Room = 10,
+}
+
+impl Fault {
+    pub fn number(self) -> u8 {
+        self as u8
+    }
+}
+
+#[derive(Clone, Copy, PartialEq, Eq)]
+pub struct Refused {
+    pub fault: Fault,
     pub place: usize,
-    pub rows: u32,
-    pub wishes: u32,
-    pub names: u32,
 }
 
-// What was read before a place: the runs, wishes and named values, the columns taken, the kind of the last record, and
-// the top layer of the last LAYERED wish.
-#[derive(Clone, Copy)]
-pub struct Sofar {
-    pub rows: u32,
-    pub wishes: u32,
-    pub names: u32,
-    pub last: u8,
-    pub top: u8,
-    pub columns: [u8; 8],
+#[derive(Clone, Copy, PartialEq, Eq)]
+pub struct Counts {
+    pub rows: usize,
+    pub wishes: usize,
+    pub names: usize,
 }
 
-// The bytes of a body, 0 for an unknown kind.
-fn body(kind: u8) -> usize
-    ensures { result ≤ 32 }
-{
-    match kind {
-        1 => 13,
-        2 => 13,
-        3 => 17,
-        4 => 21,
-        5 => 3,
-        6 => 5,
-        7 => 32,
-        8 => 21,
-        _ => 0,
-    }
+#[derive(Clone, Copy, PartialEq, Eq)]
+enum Kind {
+    Lowest,
+    Highest,
+    Around,
+    Between,
+    Layered,
+    Name,
+    Run,
+    BothSides,
 }
 
-fn byte(s: &[u8], at: usize) -> u8 {
-    if at < s.len() { s[at] } else { 0 }
-}
+impl TryFrom<u8> for Kind {
+    type Error = Fault;
 
-fn wide(b: u8) -> u64
-    ensures { result < 256 }
-{
-    b as u64
-}
-
-fn word(s: &[u8], at: usize) -> u64
-    requires { at < 1000000000000 }
-    ensures { result < 4294967296 }
-{
-    let high = wide(byte(s, at + 3)) * 256 + wide(byte(s, at + 2));
-    let low = wide(byte(s, at + 1)) * 256 + wide(byte(s, at));
-    high * 65536 + low
-}
-
-// A signed number with its top bit turned.
-fn turned(s: &[u8], at: usize) -> u64
-    requires { at < 1000000000000 }
-    ensures { result < 4294967296 }
-{
-    (word(s, at) + 2147483648) % 4294967296
-}
-
-// 7 where a distance takes more than 65,535 steps.
-fn far_refusal(distance: u64, step: u64) -> u32
-    requires { step < 4294967296 }
-{
-    if 65535 * step < distance { 7 } else { 0 }
-}
-
-fn larger(a: u64, b: u64) -> u64 {
-    if a < b { b } else { a }
-}
-
-// The figures of LOWEST and HIGHEST.
-fn ends_refusal(lo: u64, hi: u64, step: u64) -> u32
-    requires { step < 4294967296 }
-{
-    if step == 0 {
-        return 6;
-    }
-    if hi < lo {
-        return 6;
-    }
-    far_refusal(hi - lo, step)
-}
-
-// The figures of BETWEEN and of kind 08, and of AROUND where low and up are one.
-fn target_refusal(lo: u64, hi: u64, step: u64, low: u64, up: u64) -> u32
-    requires { step < 4294967296 }
-{
-    if step == 0 {
-        return 6;
-    }
-    if low < lo {
-        return 6;
-    }
-    if up < low {
-        return 6;
-    }
-    if hi < up {
-        return 6;
-    }
-    far_refusal(larger(low - lo, hi - up), step)
-}
-
-fn layers_refusal(top: u8, others: u8) -> u32 {
-    if (top == 0) | (15 < top) | (top < others) {
-        6
-    } else {
-        0
-    }
-}
-
-// 6 or 7 of the wish whose kind byte stands at a place.
-fn figures_refusal(s: &[u8], at: usize, kind: u8) -> u32
-    requires { at < 100000000000 }
-{
-    if kind == 5 {
-        return layers_refusal(byte(s, at + 2), byte(s, at + 3));
-    }
-    let lo = turned(s, at + 2);
-    let hi = turned(s, at + 6);
-    let step = word(s, at + 10);
-    if kind == 3 {
-        let z = turned(s, at + 14);
-        return target_refusal(lo, hi, step, z, z);
-    }
-    if (kind == 4) | (kind == 8) {
-        return target_refusal(lo, hi, step, turned(s, at + 14), turned(s, at + 18));
-    }
-    ends_refusal(lo, hi, step)
-}
-
-fn out_of_place(kind: u8, before: Sofar) -> bool {
-    if kind == 7 {
-        return before.wishes == 0;
-    }
-    if kind == 6 {
-        return (before.last != 5) & (before.last != 6);
-    }
-    0 < before.rows
-}
-
-fn taken(columns: [u8; 8], column: u8) -> bool {
-    if 7 < column {
-        return true;
-    }
-    let i = column as usize;
-    columns[i] == 1
-}
-
-// 5, 6 and 7 of the record at a place.
-fn rules_refusal(s: &[u8], at: usize, kind: u8, before: Sofar) -> u32
-    requires { at < 100000000000 }
-{
-    if kind == 7 {
-        if before.rows == 1024 {
-            return 7;
+    fn try_from(byte: u8) -> Result<Kind, Fault> {
+        match byte {
+            1 => Ok(Kind::Lowest),
+            2 => Ok(Kind::Highest),
+            3 => Ok(Kind::Around),
+            4 => Ok(Kind::Between),
+            5 => Ok(Kind::Layered),
+            6 => Ok(Kind::Name),
+            7 => Ok(Kind::Run),
+            8 => Ok(Kind::BothSides),
+            _ => Err(Fault::UnknownKind),
         }
-        return 0;
     }
-    if kind == 6 {
-        if before.top < byte(s, at + 5) {
-            return 6;
+}
+
+impl Kind {
+    // How many bytes follow that of the kind.
+    fn body(self) -> usize {
+        match self {
+            Kind::Lowest | Kind::Highest => 13,
+            Kind::Around => 17,
+            Kind::Between | Kind::BothSides => 21,
+            Kind::Layered => 3,
+            Kind::Name => 5,
+            Kind::Run => 32,
         }
-        if before.names == 64 {
-            return 7;
+    }
+}
+
+// The values low to up are wished for, of lo to hi, and no distance may take more than 65,535 steps.
+fn check_target(
+    lo: &[u8; 4],
+    hi: &[u8; 4],
+    step: &[u8; 4],
+    low: &[u8; 4],
+    up: &[u8; 4],
+) -> Result<(), Fault> {
+    let lo = i64::from(i32::from_le_bytes(*lo));
+    let hi = i64::from(i32::from_le_bytes(*hi));
+    let step = i64::from(u32::from_le_bytes(*step));
+    let low = i64::from(i32::from_le_bytes(*low));
+    let up = i64::from(i32::from_le_bytes(*up));
+    if step == 0 || low < lo || up < low || hi < up {
+        return Err(Fault::Figures);
+    }
+    if 65535 * step < (low - lo).max(hi - up) {
+        return Err(Fault::TooMuch);
+    }
+    Ok(())
+}
+
+// LOWEST and HIGHEST have three numbers, and are as far from lo as from hi; AROUND has four, BETWEEN and kind 08 five.
+fn check_numbers(figures: &[u8]) -> Result<(), Fault> {
+    let (numbers, _) = figures.as_chunks();
+    match numbers {
+        [lo, hi, step] => check_target(lo, hi, step, lo, lo),
+        [lo, hi, step, z] => check_target(lo, hi, step, z, z),
+        [lo, hi, step, low, up] => check_target(lo, hi, step, low, up),
+        _ => Err(Fault::CutShort),
+    }
+}
+
+fn check_layers(top: u8, others: u8) -> Result<(), Fault> {
+    if top == 0 || 15 < top || top < others {
+        return Err(Fault::Figures);
+    }
+    Ok(())
+}
+
+// What was read before a place: the counts, the columns taken, the kind of the last record, and the top layer of the
+// last LAYERED wish.
+#[derive(Drop)]
+struct Before {
+    counts: Counts,
+    columns: [bool; 8],
+    last: Option<Kind>,
+    top: u8,
+}
+
+impl Before {
+    fn is_out_of_order(&self, kind: Kind) -> bool {
+        match kind {
+            Kind::Run => self.counts.wishes == 0,
+            Kind::Name => self.last != Some(Kind::Layered) && self.last != Some(Kind::Name),
+            _ => self.counts.rows != 0,
         }
-        return 0;
     }
-    let columns = before.columns;
-    if taken(columns, byte(s, at + 1)) {
-        return 5;
+
+    fn take_row(&mut self) -> Result<(), Fault> {
+        if MOST_ROWS <= self.counts.rows {
+            return Err(Fault::TooMuch);
+        }
+        self.counts.rows += 1;
+        Ok(())
     }
-    figures_refusal(s, at, kind)
+
+    fn take_name(&mut self, layer: u8) -> Result<(), Fault> {
+        if self.top < layer {
+            return Err(Fault::Figures);
+        }
+        if MOST_NAMES <= self.counts.names {
+            return Err(Fault::TooMuch);
+        }
+        self.counts.names += 1;
+        Ok(())
+    }
+
+    fn take_wish(&mut self, column: u8, figures: &[u8]) -> Result<(), Fault> {
+        match self.columns.get_mut(usize::from(column)) {
+            Some(taken) if !*taken => *taken = true,
+            _ => return Err(Fault::Column),
+        }
+        self.counts.wishes = self.counts.wishes.saturating_add(1);
+        match figures {
+            [top, others] => {
+                self.top = *top;
+                check_layers(*top, *others)
+            }
+            _ => check_numbers(figures),
+        }
+    }
+
+    fn take(&mut self, kind: Kind, body: &[u8]) -> Result<(), Fault> {
+        match (kind, body) {
+            (Kind::Run, _) => self.take_row(),
+            (Kind::Name, [.., layer]) => self.take_name(*layer),
+            (_, [column, figures @ ..]) => self.take_wish(*column, figures),
+            _ => Err(Fault::CutShort),
+        }
+    }
+
+    // Reads a record, and gives what follows it.
+    fn read<'a>(&mut self, kind: u8, after: &'a [u8]) -> Result<&'a [u8], Fault>
+        ensures { IfOk result (λ rest. length rest.now ≤ length after.now) }
+    {
+        let kind = Kind::try_from(kind)?;
+        if self.is_out_of_order(kind) {
+            return Err(Fault::OutOfOrder);
+        }
+        let (body, rest) = after.split_at_checked(kind.body()).ok_or(Fault::CutShort)?;
+        self.take(kind, body)?;
+        self.last = Some(kind);
+        Ok(rest)
+    }
 }
 
-// The number of the record at a place, or 0.
-fn record_refusal(s: &[u8], at: usize, before: Sofar) -> u32
-    requires { (at < length s.now) × (at < 100000000000) }
-{
-    let kind = s[at];
-    let n = body(kind);
-    if n == 0 {
-        return 2;
-    }
-    if out_of_place(kind, before) {
-        return 3;
-    }
-    if s.len() - at <= n {
-        return 4;
-    }
-    rules_refusal(s, at, kind, before)
-}
-
-fn one_more(n: u32) -> u32 {
-    if n < 4294967295 { n + 1 } else { n }
-}
-
-// With the wish at a place.
-fn with_wish(s: &[u8], at: usize, kind: u8, before: Sofar) -> Sofar
-    requires { at < 100000000000 }
-{
-    let mut next = before;
-    let column = byte(s, at + 1);
-    next.last = kind;
-    next.wishes = one_more(before.wishes);
-    next.top = byte(s, at + 2);
-    if column < 8 {
-        let i = column as usize;
-        next.columns[i] = 1;
-    }
-    next
-}
-
-fn with_record(s: &[u8], at: usize, before: Sofar) -> Sofar
-    requires { at < 100000000000 }
-{
-    let kind = byte(s, at);
-    if kind == 7 {
-        let mut next = before;
-        next.last = 7;
-        next.rows = one_more(before.rows);
-        return next;
-    }
-    if kind == 6 {
-        let mut next = before;
-        next.last = 6;
-        next.names = one_more(before.names);
-        return next;
-    }
-    with_wish(s, at, kind, before)
-}
-
-fn nothing() -> Sofar {
-    let columns = [0u8; 8];
-    Sofar {
-        rows: 0,
-        wishes: 0,
-        names: 0,
-        last: 0,
+// The verdict on a stream read into a log of so many numbers.
+pub fn judge(stream: &[u8], room: usize) -> Result<Counts, Refused> {
+    let mut before = Before {
+        counts: Counts {
+            rows: 0,
+            wishes: 0,
+            names: 0,
+        },
+        columns: [false; 8],
+        last: None,
         top: 0,
-        columns: columns,
+    };
+    let mut rest = stream;
+    while let Some((kind, after)) = rest.split_first() {
+        let place = stream.len() - rest.len();
+        rest = before
+            .read(*kind, after)
+            .map_err(|fault| Refused { fault, place })?;
     }
-}
-
-fn refused(refusal: u32, place: usize) -> Verdict {
-    Verdict {
-        refusal: refusal,
-        place: place,
-        rows: 0,
-        wishes: 0,
-        names: 0,
+    let counts = before.counts;
+    let place = stream.len();
+    if counts.wishes == 0 {
+        return Err(Refused {
+            fault: Fault::NoWish,
+            place,
+        });
     }
-}
-
-// The verdict on a stream read into a log of so many numbers. Streams of a hundred billion bytes are not judged.
-pub fn judge(s: &[u8], room: usize) -> Verdict {
-    if 100000000000 <= s.len() {
-        return refused(0, 0);
+    if room / 8 < counts.rows {
+        return Err(Refused {
+            fault: Fault::Room,
+            place,
+        });
     }
-    let mut before = nothing();
-    let mut at: usize = 0;
-    while at < s.len() {
-        let refusal = record_refusal(s, at, before);
-        if refusal != 0 {
-            return refused(refusal, at);
-        }
-        before = with_record(s, at, before);
-        at += 1 + body(s[at]);
-    }
-    if before.wishes == 0 {
-        return refused(1, s.len());
-    }
-    if room / 8 < before.rows as usize {
-        return refused(10, s.len());
-    }
-    Verdict {
-        refusal: 0,
-        place: s.len(),
-        rows: before.rows,
-        wishes: before.wishes,
-        names: before.names,
-    }
+    Ok(counts)
 }

@@ -1,176 +1,98 @@
-// Damaged streams: every prefix, and every byte changed to every value.
-ghost use Rattle.std.specs.Prelude.{◌≤◌, length};
+// Damaged streams: every prefix, every size of log, and every byte changed to every value.
+ghost use Rattle.std.specs.Prelude.{◌<◌, length};
 
-use crate::{cases, places, streams};
+use crate::places;
 use preference::PreferenceList;
-use stream_format::WriteAnswer;
-use test_support::show;
+use std::io;
+use stream_format::StreamRead;
+use test_model_records::Counts;
+use test_support::lent;
 
 // What the lent buffers hold where nothing is to be stored.
 const KEPT: i32 = -77777;
 
 const UNTOUCHED: u8 = 238;
 
-// Whether the log holds what it was lent with, from a place on.
-fn log_kept(log: &[i32], from: usize) -> bool {
-    let mut kept = true;
-    let mut i = from;
-    while i < log.len() {
-        if log[i] != KEPT {
-            kept = false;
-        }
-        i += 1;
-    }
-    kept
-}
+// Eight rows, which the streams have no more of.
+const ROOM: usize = 64;
 
-// Whether out holds the stream, and past it what it was lent with.
-fn written_back(s: &[u8], out: &[u8]) -> bool {
-    let mut same = true;
-    let mut i: usize = 0;
-    while i < out.len() {
-        let due = if i < s.len() { s[i] } else { UNTOUCHED };
-        if out[i] != due {
-            same = false;
-        }
-        i += 1;
-    }
-    same
-}
-
-// Whether writing what was read gives the stream again.
-fn comes_back(s: &[u8], list: PreferenceList, log: &[i32], rows: usize) -> bool {
+// Whether writing what was read gives the stream again, and no more.
+fn comes_back(stream: &[u8], list: PreferenceList, log: &[i32]) -> bool {
     let mut out = [UNTOUCHED; 256];
-    if log.len() / 8 < rows {
+    stream_writer::write(list, log, &mut out) == Ok(stream.len())
+        && lent::holds(&out, stream, UNTOUCHED)
+}
+
+// Whether what was read has the counts that are due, leaves places past them zero and the log past its rows as it was,
+// and is written back.
+fn is_due(read: StreamRead, counts: Counts, stream: &[u8], log: &[i32]) -> bool {
+    let list = read.list;
+    let Some((rows, rest)) = log.split_at_checked(read.rows.saturating_mul(8)) else {
         return false;
-    }
-    let end = 8 * rows;
-    let written = stream_writer::write(list, &log[..end], &mut out);
-    let length = match written {
-        WriteAnswer::Written(n) => n,
-        WriteAnswer::Refused(_) => 0,
     };
-    (length == s.len()) & written_back(s, &out)
+    read.rows == counts.rows
+        && list.count as usize == counts.wishes
+        && list.namedcount as usize == counts.names
+        && places::zero_past(&list)
+        && lent::changed(rest, KEPT) == 0
+        && comes_back(stream, list, rows)
 }
 
-// 1 where the reader differs from the model, touches what it must not, leaves a place past the counts that is not zero,
-// or what it read is not written back.
-fn differs(s: &[u8], room: usize) -> u64
-    ensures { result ≤ 1 }
-{
-    let mut log = [KEPT; 64];
-    let due = test_model_records::judge(s, room);
-    let got = cases::read_part(s, &mut log, room);
-    let list = got.list;
-    let rows = got.rows;
-    let same = (got.refusal as u32 == due.refusal)
-        & (got.place == due.place)
-        & (rows == due.rows as usize)
-        & (list.count == due.wishes)
-        & (list.namedcount == due.names)
-        & places::zero_past(list);
-    if !same {
-        return 1;
-    }
-    if 8 < rows {
-        return 1;
-    }
-    if !log_kept(&log, 8 * rows) {
-        return 1;
-    }
-    if got.refusal != 0 {
-        return 0;
-    }
-    if comes_back(s, list, &log, rows) {
-        0
-    } else {
-        1
+// Whether the reader agrees with the model, and touches nothing that it must not.
+fn agrees(stream: &[u8], room: usize) -> bool {
+    let mut log = [KEPT; ROOM];
+    let got = stream_reader::read(stream, &mut log[..room.min(ROOM)]);
+    match (got, test_model_records::judge(stream, room)) {
+        (Ok(read), Ok(counts)) => is_due(read, counts, stream, &log),
+        (Err(got), Err(due)) => {
+            u8::from(got.refusal) == due.fault.number()
+                && got.place == due.place
+                && lent::changed(&log, KEPT) == 0
+        }
+        _ => false,
     }
 }
 
-// How many streams were tried, and how many differed.
-#[derive(Clone, Copy)]
-struct Tally {
-    tried: u64,
-    bad: u64,
-}
-
-fn prefixes(s: &[u8]) -> Tally {
-    let mut bad: u64 = 0;
-    let mut n: usize = 0;
-    while n < s.len() {
-        bad += differs(&s[..n], 64);
-        n += 1;
-    }
-    Tally {
-        tried: n as u64,
-        bad: bad,
-    }
+fn prefixes(stream: &[u8]) -> usize {
+    (0..stream.len())
+        .filter(|n| !agrees(lent::front(stream, *n), ROOM))
+        .count()
 }
 
 // Rooms of every size up to that of eight rows.
-fn rooms(s: &[u8]) -> Tally {
-    let mut bad: u64 = 0;
-    let mut room: usize = 0;
-    while room <= 64 {
-        bad += differs(s, room);
-        room += 1;
-    }
-    Tally {
-        tried: room as u64,
-        bad: bad,
-    }
+fn rooms(stream: &[u8]) -> usize {
+    (0..=ROOM).filter(|room| !agrees(stream, *room)).count()
 }
 
-// Byte i changed to every value.
-fn values(s: &mut [u8], i: usize) -> u64
-    ensures { result ≤ 256 }
+// A byte changed to every value.
+fn values(stream: &mut [u8], at: usize) -> usize
+    requires { at < length stream.old }
 {
-    let mut bad: u64 = 0;
-    let mut v: u32 = 0;
-    while v < 256 {
-        word::put_u8(s, i, (v % 256) as u8);
-        bad += differs(s, 64);
-        v += 1;
+    let before = stream[at];
+    let mut differing: usize = 0;
+    for value in 0..=u8::MAX {
+        stream[at] = value;
+        differing = differing.saturating_add(usize::from(!agrees(stream, ROOM)));
     }
-    bad
+    stream[at] = before;
+    differing
 }
 
-fn every_byte(s: &mut [u8]) -> Tally
-    requires { length s.old ≤ 1000 }
-{
-    let mut bad: u64 = 0;
-    let mut i: usize = 0;
-    while i < s.len() {
-        let b = word::get_u8(s, i);
-        bad += values(s, i);
-        word::put_u8(s, i, b);
-        i += 1;
+fn every_byte(stream: &mut [u8]) -> usize {
+    let mut differing: usize = 0;
+    for at in 0..stream.len() {
+        differing = differing.saturating_add(values(stream, at));
     }
-    Tally {
-        tried: 256 * i as u64,
-        bad: bad,
-    }
+    differing
 }
 
-fn show_tally(label: &[u8], t: Tally) {
-    show::text(label);
-    show::number(t.tried);
-    show::text(b" differing");
-    show::number(t.bad);
-    show::end_line();
-}
-
-pub fn harbour() {
-    let mut s = streams::HARBOUR;
-    show_tally(b"harbour prefixes", prefixes(&s));
-    show_tally(b"harbour rooms", rooms(&s));
-    show_tally(b"harbour bytes changed", every_byte(&mut s));
-}
-
-pub fn every() {
-    let mut s = streams::EVERY;
-    show_tally(b"every kind prefixes", prefixes(&s));
-    show_tally(b"every kind rooms", rooms(&s));
-    show_tally(b"every kind bytes changed", every_byte(&mut s));
+pub fn show_damage(rt: &impl Print, label: &str, stream: &mut [u8]) -> io::Result<()> {
+    let length = stream.len();
+    let changes = length.saturating_mul(256);
+    println!(rt; "{label} prefixes {length} differing {}", prefixes(stream))?;
+    println!(rt; "{label} rooms {} differing {}", ROOM + 1, rooms(stream))?;
+    println!(rt;
+        "{label} bytes changed {changes} differing {}",
+        every_byte(stream)
+    )
 }

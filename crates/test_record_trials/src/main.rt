@@ -3,19 +3,17 @@
 // be refused, and no difference elsewhere.
 #![tactic(auto)]
 
+use std::io;
+
 mod cases;
 mod damage;
 mod places;
 mod streams;
 
-fn main() {
-    cases::table();
-    cases::places();
-    cases::both_sides();
-    cases::records();
-    cases::counts();
-    cases::logs();
-    cases::longest();
-    damage::harbour();
-    damage::every();
+fn main(rt: HostRuntime) -> io::Result<()> {
+    let mut harbour = streams::HARBOUR;
+    let mut every = streams::EVERY;
+    cases::all(&rt)?;
+    damage::show_damage(&rt, "harbour", &mut harbour)?;
+    damage::show_damage(&rt, "every kind", &mut every)
 }

@@ -2,6 +2,8 @@
 // against a layout written apart. The file stdout was made by a third layout, which is not part of this repository.
 #![tactic(auto)]
 
+use std::io;
+
 mod apart;
 mod calls;
 mod cases;
@@ -9,8 +11,8 @@ mod generated;
 mod sheets;
 mod trials;
 
-fn main() {
-    sheets::all();
-    cases::all();
-    trials::all();
+fn main(rt: HostRuntime) -> io::Result<()> {
+    sheets::all(&rt)?;
+    cases::all(&rt)?;
+    trials::all(&rt)
 }

@@ -1,30 +1,61 @@
 // Every figure of a list or a log is a function of the seed and of what it is for, so that each can be asked for anew.
 ghost use Rattle.std.specs.Prelude.{◌<◌, ◌≤◌};
+ghost use Rattle.std.specs.Iterator.{at_most};
 
-// The next number of a pseudo-random sequence.
-pub fn next(seed: u32) -> u32 {
-    ((seed as u64 * 1664525 + 1013904223) % 4294967296) as u32
-}
+#[derive(Clone, Copy)]
+pub struct Seed(u32);
 
-fn mixed(seed: u32, salt: u32) -> u32 {
-    ((seed as u64 + salt as u64 * 2654435761) % 4294967296) as u32
-}
-
-// A figure below n; 0 where n is 0.
-pub fn figure(seed: u32, salt: u32, n: u32) -> u32
-    ensures { result ≤ n }
-{
-    if n == 0 {
-        return 0;
+impl Seed {
+    // The next one of a pseudo-random sequence.
+    fn next(self) -> Seed {
+        Seed(self.0.wrapping_mul(1664525).wrapping_add(1013904223))
     }
-    let r = next(next(mixed(seed, salt))) / 65536 % n;
-    if r < n { r } else { 0 }
+
+    // A figure below n; 0 where n is 0.
+    pub fn below(self, salt: u32, n: u32) -> u32
+        ensures { 0 < n → result < n }
+    {
+        let mixed = Seed(self.0.wrapping_add(salt.wrapping_mul(2654435761)));
+        let figure = mixed.next().next().0 / 65536;
+        figure.checked_rem(n).unwrap_or(0)
+    }
+
+    // A figure from 0 to n.
+    pub fn upto(self, salt: u32, n: u16) -> u16
+        ensures { result ≤ n }
+    {
+        self.below(salt, u32::from(n) + 1) as u16
+    }
 }
 
-// A figure from 0 to n.
-pub fn upto(seed: u32, salt: u32, n: u16) -> u32
-    ensures { result ≤ n }
-{
-    let r = figure(seed, salt, n as u32 + 1);
-    if r <= n as u32 { r } else { 0 }
+// Seeds from 1 on, each the next of the one before.
+#[derive(Drop)]
+pub struct Seeds {
+    seed: Seed,
+    left: u32,
+}
+
+impl Seeds {
+    pub fn new(count: u32) -> Seeds {
+        Seeds {
+            seed: Seed(1),
+            left: count,
+        }
+    }
+}
+
+impl Iterator for Seeds {
+    type Item = Seed;
+
+    ghost remaining = { λ s. at_most s.left };
+
+    fn next(&mut self) -> Option<Seed> {
+        if self.left == 0 {
+            return None;
+        }
+        self.left -= 1;
+        let seed = self.seed;
+        self.seed = seed.next();
+        Some(seed)
+    }
 }

@@ -2,6 +2,7 @@
 // apart, and a nested loop to hold calls against. Proved safe and ending, no more.
 #![tactic(auto)]
 
+pub mod counts;
 pub mod figures;
 pub mod lent;
 pub mod levels_apart;
@@ -9,6 +10,7 @@ pub mod lists;
 pub mod logs;
 pub mod nested;
 pub mod rental;
+pub mod room;
 pub mod short_logs;
 pub mod show;
 pub mod trial;

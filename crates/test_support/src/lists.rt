@@ -1,155 +1,162 @@
 // One to eight preferences of the six forms, on columns that follow each other.
 ghost use Rattle.std.specs.Prelude.{◌<◌, ◌≤◌};
 
-use crate::{figures, trial};
+use crate::figures::Seed;
+use crate::trial;
 use constructor::Constructor;
 use preference::PreferenceList;
 
-pub fn count_of(seed: u32) -> u32
-    ensures { (0 < result) × (result ≤ 8) }
-{
-    figures::upto(seed, 3, 7) + 1
+#[derive(Clone, Copy, PartialEq, Eq)]
+enum Form {
+    Lowest,
+    Highest,
+    Around,
+    Between,
+    Layered,
+    BothSides,
 }
 
-// The column of the preference at place k.
-pub fn column_of(seed: u32, k: u32) -> u32
-    ensures { result < 8 }
-{
-    (figures::upto(seed, 4, 7) + k % 8) % 8
+// What a seed makes of a column.
+#[derive(Clone, Copy)]
+pub struct Column {
+    seed: Seed,
+    number: u8,
+    ghost in_row: { number < 8 },
 }
 
-// Whether all wishes are of kind 08: one list of seven, so that eight of them, which give 16 level parts, come too.
-fn all_pairs(seed: u32) -> bool {
-    figures::upto(seed, 11, 6) == 0
-}
-
-// 0 LOWEST, 1 HIGHEST, 2 AROUND, 3 BETWEEN, 4 LAYERED, 5 kind 08, which is more than one wish of four.
-fn form_of(seed: u32, column: u32) -> u32 {
-    if all_pairs(seed) | (figures::upto(seed, 96 + column % 8, 5) == 0) {
-        return 5;
+impl Column {
+    pub fn new(seed: Seed, number: usize) -> Column {
+        Column {
+            seed,
+            number: (number % 8) as u8,
+        }
     }
-    figures::upto(seed, 88 + column % 8, 4)
-}
 
-// The step of a column, the least of its values, and how far they go.
-fn step_of(seed: u32, column: u32) -> u32
-    ensures { (0 < result) × (result ≤ 3) }
-{
-    figures::upto(seed, 16 + column % 8, 2) + 1
-}
-
-pub fn lo_of(seed: u32, column: u32) -> u32
-    ensures { (5 ≤ result) × (result ≤ 13) }
-{
-    figures::upto(seed, 24 + column % 8, 8) + 5
-}
-
-// Three steps; two under kind 08, whose nodes are M + 1 squared, and one where all wishes are of it.
-fn span_of(seed: u32, column: u32) -> u32
-    ensures { result ≤ 9 }
-{
-    let step = step_of(seed, column);
-    if form_of(seed, column) != 5 {
-        return 3 * step;
+    // The column of the preference at a place.
+    pub fn at(seed: Seed, place: usize) -> Column {
+        Column::new(seed, usize::from(seed.upto(4, 7)) + place % 8)
     }
-    if all_pairs(seed) { step } else { 2 * step }
-}
 
-// Twice as many in one list of four, so that M is 0 to 6 and some lists have more nodes than are taken.
-fn reach_of(seed: u32, span: u32) -> u32
-    requires { span ≤ 9 }
-    ensures { result ≤ 18 }
-{
-    if figures::upto(seed, 10, 3) == 0 {
-        2 * span
-    } else {
-        span
+    pub fn number(self) -> usize {
+        usize::from(self.number)
+    }
+
+    // A figure from 0 to n, of those that a salt and the seven after it are for.
+    pub fn upto(self, salt: u32, n: u16) -> u16
+        requires { salt ≤ 1000000 }
+        ensures { result ≤ n }
+    {
+        self.seed.upto(salt + u32::from(self.number), n)
+    }
+
+    // Whether all wishes are of kind 08: one list of seven, so that eight of them, which give 16 level parts, come too.
+    fn all_pairs(self) -> bool {
+        self.seed.upto(11, 6) == 0
+    }
+
+    // Kind 08 is more than one wish of four.
+    fn form(self) -> Form {
+        if self.all_pairs() || self.upto(96, 5) == 0 {
+            return Form::BothSides;
+        }
+        match self.upto(88, 4) {
+            0 => Form::Lowest,
+            1 => Form::Highest,
+            2 => Form::Around,
+            3 => Form::Between,
+            _ => Form::Layered,
+        }
+    }
+
+    fn step(self) -> u16
+        ensures { result ≤ 3 }
+    {
+        self.upto(16, 2) + 1
+    }
+
+    // The least of its values.
+    pub fn lo(self) -> u16
+        ensures { (5 ≤ result) × (result ≤ 13) }
+    {
+        self.upto(24, 8) + 5
+    }
+
+    // Three steps; two under kind 08, whose nodes are M + 1 squared, and one where all wishes are of it. Twice as far
+    // in one list of four, so that M is 0 to 6 and some lists have more nodes than are taken.
+    fn reach(self) -> u16
+        ensures { result ≤ 18 }
+    {
+        let steps = if self.form() != Form::BothSides {
+            3
+        } else if self.all_pairs() {
+            1
+        } else {
+            2
+        };
+        let times = if self.seed.upto(10, 3) == 0 { 2 } else { 1 };
+        times * steps * self.step()
+    }
+
+    // How far its values go from the least.
+    pub fn width(self) -> u16
+        ensures { result ≤ 18 }
+    {
+        self.upto(32, self.reach())
+    }
+
+    // The top layer.
+    fn top(self) -> u16
+        ensures { result ≤ 3 }
+    {
+        self.upto(56, 2) + 1
+    }
+
+    fn layer(self, salt: u32) -> u8
+        requires { salt ≤ 100 }
+    {
+        self.upto(salt, self.top()) as u8
+    }
+
+    fn wish(self) -> Constructor {
+        let step = u32::from(self.step());
+        let width = self.width();
+        let below = self.upto(40, width);
+        let across = self.upto(48, width - below);
+        let lo = i32::from(self.lo());
+        let hi = lo + i32::from(width);
+        let low = lo + i32::from(below);
+        let up = low + i32::from(across);
+        match self.form() {
+            Form::Lowest => trial::lowest(lo, hi, step),
+            Form::Highest => trial::highest(lo, hi, step),
+            Form::Around => trial::around(lo, hi, step, low),
+            Form::Between => trial::between(lo, hi, step, low, up),
+            Form::Layered => trial::layers(self.top() as u8, self.layer(64)),
+            Form::BothSides => trial::between_trivial(lo, hi, step, low, up),
+        }
     }
 }
 
-pub fn width_of(seed: u32, column: u32) -> u32
-    ensures { result ≤ 18 }
-{
-    let most = reach_of(seed, span_of(seed, column));
-    figures::upto(seed, 32 + column % 8, most as u16)
+pub fn count_of(seed: Seed) -> u8 {
+    seed.upto(3, 7) as u8 + 1
 }
 
-// BETWEEN, or kind 08 over the same range.
-fn between_of(seed: u32, column: u32, form: u32, lo: u32, width: u32, step: u32) -> Constructor
-    requires { (column < 8) × (lo ≤ 13) × (width ≤ 18) }
-{
-    let below = figures::upto(seed, 40 + column, width as u16);
-    let across = figures::upto(seed, 48 + column, (width - below) as u16);
-    let hi = lo + width;
-    let low = (lo + below) as i32;
-    let up = (lo + below + across) as i32;
-    if form == 5 {
-        return trial::between_trivial(lo as i32, hi as i32, step, low, up);
+// The list with the wish at a place, and two named values where it is LAYERED.
+fn with_place(list: PreferenceList, seed: Seed, place: u8) -> PreferenceList {
+    let column = Column::at(seed, usize::from(place));
+    let list = trial::with(list, column.number, column.wish());
+    if column.form() != Form::Layered {
+        return list;
     }
-    trial::between(lo as i32, hi as i32, step, low, up)
+    let lo = i32::from(column.lo());
+    let one = trial::with_named(list, place, lo, column.layer(72));
+    trial::with_named(one, place, lo + 2, column.layer(80))
 }
 
-fn around_of(seed: u32, column: u32, lo: u32, width: u32, step: u32) -> Constructor
-    requires { (column < 8) × (lo ≤ 13) × (width ≤ 18) }
-{
-    let z = lo + figures::upto(seed, 40 + column, width as u16);
-    let hi = lo + width;
-    trial::around(lo as i32, hi as i32, step, z as i32)
-}
-
-// One of the five forms that go by distance.
-fn numeric_of(seed: u32, column: u32, form: u32) -> Constructor
-    requires { column < 8 }
-{
-    let lo = lo_of(seed, column);
-    let width = width_of(seed, column);
-    let step = step_of(seed, column);
-    let hi = lo + width;
-    if form == 0 {
-        return trial::lowest(lo as i32, hi as i32, step);
-    }
-    if form == 1 {
-        return trial::highest(lo as i32, hi as i32, step);
-    }
-    if form == 2 {
-        return around_of(seed, column, lo, width, step);
-    }
-    between_of(seed, column, form, lo, width, step)
-}
-
-// LAYERED with layers up to 1, 2 or 3, and two named values.
-fn with_layers(list: PreferenceList, seed: u32, column: u32, place: u32) -> PreferenceList
-    requires { (column < 8) × (place < 8) }
-{
-    let top = figures::upto(seed, 56 + column, 2) + 1;
-    let rest = figures::upto(seed, 64 + column, top as u16);
-    let lo = lo_of(seed, column);
-    let first = figures::upto(seed, 72 + column, top as u16);
-    let second = figures::upto(seed, 80 + column, top as u16);
-    let owner = place as u8;
-    let bare = trial::with(list, column as u8, trial::layers(top as u8, rest as u8));
-    let one = trial::with_named(bare, owner, lo as i32, first as u8);
-    trial::with_named(one, owner, (lo + 2) as i32, second as u8)
-}
-
-fn with_place(list: PreferenceList, seed: u32, place: u32) -> PreferenceList
-    requires { place < 8 }
-{
-    let column = column_of(seed, place);
-    let form = form_of(seed, column);
-    if form == 4 {
-        return with_layers(list, seed, column, place);
-    }
-    trial::with(list, column as u8, numeric_of(seed, column, form))
-}
-
-pub fn list_of(seed: u32) -> PreferenceList {
-    let count = count_of(seed);
+pub fn list_of(seed: Seed) -> PreferenceList {
     let mut list = trial::none();
-    let mut k: u32 = 0;
-    while k < count {
-        list = with_place(list, seed, k);
-        k += 1;
+    for place in 0..count_of(seed) {
+        list = with_place(list, seed, place);
     }
     list
 }

@@ -1,61 +1,85 @@
 // Logs of up to 40 rows. About one in eight has a value that its preference refuses by 8.
-ghost use Rattle.std.specs.Prelude.{◌<◌, ◌≤◌};
+use crate::figures::{Seed, Seeds};
+use crate::lists::{self, Column};
+use preference::PreferenceList;
+use std::alloc::{AllocError, Global};
+use std::array;
 
-use crate::{figures, lists};
-
-pub fn rows_of(seed: u32) -> usize
-    ensures { result ≤ 40 }
-{
-    figures::upto(seed, 2, 40) as usize
+fn rows_of(seed: Seed) -> u16 {
+    seed.upto(2, 40)
 }
 
-// Whether a value lies outside; where it falls on LAYERED, no value does.
-fn strays(seed: u32) -> bool {
-    figures::figure(seed, 5, 6) == 0
-}
-
-// The row and the column of the value that lies outside.
-fn is_stray(seed: u32, row: u32, column: u32) -> bool {
-    let at = figures::figure(seed, 6, rows_of(seed) as u32);
-    let place = figures::figure(seed, 7, lists::count_of(seed));
-    strays(seed) & (row == at) & (column == lists::column_of(seed, place))
+// The row and the column of the value that lies outside; where it falls on LAYERED, no value does.
+fn is_stray(seed: Seed, row: u16, column: Column) -> bool {
+    let place = seed.below(7, u32::from(lists::count_of(seed)));
+    seed.below(5, 6) == 0
+        && u32::from(row) == seed.below(6, u32::from(rows_of(seed)))
+        && column.number() == Column::at(seed, place as usize).number()
 }
 
 // One to four below lo, or above hi.
-fn outside(seed: u32, column: u32) -> i32 {
-    let far = figures::upto(seed, 8, 3) + 1;
-    let lo = lists::lo_of(seed, column);
-    if figures::upto(seed, 9, 1) == 0 {
-        return (lo - far) as i32;
+fn outside(seed: Seed, column: Column) -> i32 {
+    let far = i32::from(seed.upto(8, 3)) + 1;
+    if seed.upto(9, 1) == 0 {
+        i32::from(column.lo()) - far
+    } else {
+        i32::from(column.lo() + column.width()) + far
     }
-    (lo + lists::width_of(seed, column) + far) as i32
 }
 
-fn inside(seed: u32, row: u32, column: u32) -> i32
-    requires { (row < 1024) × (column < 8) }
+fn inside(row: u16, column: Column) -> i32 {
+    let far = column.upto(1000 + 8 * u32::from(row), column.width());
+    i32::from(column.lo() + far)
+}
+
+fn row_of(seed: Seed, row: u16) -> [i32; 8] {
+    array::from_fn(|number| {
+        let column = Column::new(seed, number);
+        if is_stray(seed, row, column) {
+            outside(seed, column)
+        } else {
+            inside(row, column)
+        }
+    })
+}
+
+// A list, and a log for it.
+#[derive(Drop)]
+pub struct Generated {
+    pub list: PreferenceList,
+    pub rows: Vec<[i32; 8]>,
+}
+
+impl Generated {
+    pub fn new(alloc: Global, seed: Seed) -> Result<Generated, AllocError> {
+        let rows = (0..rows_of(seed)).map(|row| row_of(seed, row));
+        Ok(Generated {
+            list: lists::list_of(seed),
+            rows: rows.collect(alloc)?,
+        })
+    }
+
+    pub fn numbers(&self) -> &[i32] {
+        self.rows.as_slice().as_flattened()
+    }
+
+    // How many rows, as a call counts them.
+    pub fn row_count(&self) -> u32 {
+        u32::try_from(self.rows.len()).unwrap_or(u32::MAX)
+    }
+}
+
+// What comes of each of so many generated logs.
+pub fn try_each<T: Drop, F: Fn(&Generated) -> Result<T, AllocError>>(
+    alloc: Global,
+    count: u32,
+    try_log: F,
+) -> Result<Vec<T>, AllocError>
+    requires { F.IsAlwaysCallable try_log }
 {
-    let far = figures::upto(
-        seed,
-        1000 + 8 * row + column,
-        lists::width_of(seed, column) as u16,
-    );
-    (lists::lo_of(seed, column) + far) as i32
-}
-
-// The value at a place of the log; rows repeat from row 1,024 on.
-fn value_at(seed: u32, i: usize) -> i32 {
-    let row = (i / 8 % 1024) as u32;
-    let column = (i % 8) as u32;
-    if is_stray(seed, row, column) {
-        return outside(seed, column);
+    let mut tried = Vec::new(alloc);
+    for seed in Seeds::new(count) {
+        tried.push(try_log(&Generated::new(alloc, seed)?)?)?;
     }
-    inside(seed, row, column)
-}
-
-pub fn fill_log(seed: u32, log: &mut [i32]) {
-    let mut i: usize = 0;
-    while i < log.len() {
-        log[i] = value_at(seed, i);
-        i += 1;
-    }
+    Ok(tried)
 }

@@ -1,25 +1,41 @@
-// Printing for the programs that show or try something: text, and numbers with a space before each.
-// The descriptor of standard output.
-const STDOUT_FILENO: i32 = 1;
+// What the programs that show or try something print as a unit.
+use refusal::Refusal;
+use std::fmt;
 
-pub fn text(t: &[u8]) {
-    io::write_all(STDOUT_FILENO, t);
+// Numbers with a space before each.
+#[derive(Clone, Copy)]
+pub struct Spaced<'a, T>(pub &'a [T]);
+
+impl<T: fmt::Display> fmt::Display for Spaced<'_, T> {
+    fn fmt<W: fmt::Write>(&self, f: &mut fmt::Formatter<W>) -> fmt::Result {
+        for number in self.0 {
+            write!(f, " {number}")?;
+        }
+        Ok(())
+    }
 }
 
-pub fn number(n: u64) {
-    io::write_all(STDOUT_FILENO, b" ");
-    io::print_decimal(STDOUT_FILENO, n);
+// A refusal by its documented number.
+#[derive(Clone, Copy)]
+pub struct Refused(pub Refusal);
+
+impl fmt::Display for Refused {
+    fn fmt<W: fmt::Write>(&self, f: &mut fmt::Formatter<W>) -> fmt::Result {
+        let number = u8::from(self.0);
+        write!(f, "refused {number}")
+    }
 }
 
-// Two numbers in brackets, as the documents print pairs of levels.
-pub fn pair(a: u64, b: u64) {
-    io::write_all(STDOUT_FILENO, b" (");
-    io::print_decimal(STDOUT_FILENO, a);
-    io::write_all(STDOUT_FILENO, b",");
-    io::print_decimal(STDOUT_FILENO, b);
-    io::write_all(STDOUT_FILENO, b")");
-}
+// What a call comes back as: a number with the word for it, or the refusal.
+#[derive(Clone, Copy)]
+pub struct Answer<'a>(pub &'a str, pub Result<u32, Refusal>);
 
-pub fn end_line() {
-    io::write_all(STDOUT_FILENO, b"\n");
+impl fmt::Display for Answer<'_> {
+    fn fmt<W: fmt::Write>(&self, f: &mut fmt::Formatter<W>) -> fmt::Result {
+        let word = self.0;
+        match self.1 {
+            Ok(n) => write!(f, " {word} {n}"),
+            Err(refusal) => write!(f, " {}", Refused(refusal)),
+        }
+    }
 }

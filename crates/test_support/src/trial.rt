@@ -1,59 +1,47 @@
 // Preference lists for the programs that try calls, and what the calls come back as.
-use crate::show;
+ghost use Rattle.std.specs.Iterator.{IsFinite};
+
+use crate::show::Refused;
 use constructor::{Constructor, Side};
-use preference::{LevelAnswer, Named, Preference, PreferenceList};
+use preference::{Named, Preference, PreferenceList, Told};
+use refusal::Refusal;
+use std::{fmt, io};
 
 pub fn lowest(lo: i32, hi: i32, step: u32) -> Constructor {
-    Constructor::Lowest {
-        lo: lo,
-        hi: hi,
-        step: step,
-    }
+    Constructor::Lowest { lo, hi, step }
 }
 
 pub fn highest(lo: i32, hi: i32, step: u32) -> Constructor {
-    Constructor::Highest {
-        lo: lo,
-        hi: hi,
-        step: step,
-    }
+    Constructor::Highest { lo, hi, step }
 }
 
 pub fn around(lo: i32, hi: i32, step: u32, z: i32) -> Constructor {
-    Constructor::Around {
-        lo: lo,
-        hi: hi,
-        step: step,
-        z: z,
-    }
+    Constructor::Around { lo, hi, step, z }
 }
 
 pub fn between(lo: i32, hi: i32, step: u32, low: i32, up: i32) -> Constructor {
     Constructor::Between {
-        lo: lo,
-        hi: hi,
-        step: step,
-        low: low,
-        up: up,
+        lo,
+        hi,
+        step,
+        low,
+        up,
     }
 }
 
 // Kind 08.
 pub fn between_trivial(lo: i32, hi: i32, step: u32, low: i32, up: i32) -> Constructor {
     Constructor::BetweenTrivial {
-        lo: lo,
-        hi: hi,
-        step: step,
-        low: low,
-        up: up,
+        lo,
+        hi,
+        step,
+        low,
+        up,
     }
 }
 
 pub fn layers(top: u8, others: u8) -> Constructor {
-    Constructor::Layered {
-        top: top,
-        others: others,
-    }
+    Constructor::Layered { top, others }
 }
 
 // No preference; what stands past the counts would be refused if it were counted.
@@ -67,126 +55,144 @@ pub fn none() -> PreferenceList {
         value: -1,
         layer: 66,
     };
-    let preferences = [p; 8];
-    let named = [n; 64];
     PreferenceList {
         count: 0,
-        preferences: preferences,
+        preferences: [p; 8],
         namedcount: 0,
-        named: named,
+        named: [n; 64],
     }
 }
 
 // The list with one preference more; where it is full, only its count grows.
-pub fn with(list: PreferenceList, column: u8, c: Constructor) -> PreferenceList {
+pub fn with(list: PreferenceList, column: u8, constructor: Constructor) -> PreferenceList {
     let mut next = list;
-    let count = list.count;
-    if count < 8 {
-        let at = count as usize;
-        next.preferences[at] = Preference {
-            column: column,
-            constructor: c,
+    if let Some(place) = next.preferences.get_mut(list.count as usize) {
+        *place = Preference {
+            column,
+            constructor,
         };
-        next.count = count + 1;
-        return next;
     }
-    next.count = 9;
+    next.count = list.count.saturating_add(1);
     next
+}
+
+// The list with one named value more; where it is full, only their count grows.
+pub fn with_named(list: PreferenceList, owner: u8, value: i32, layer: u8) -> PreferenceList {
+    let mut next = list;
+    if let Some(place) = next.named.get_mut(list.namedcount as usize) {
+        *place = Named {
+            preference: owner,
+            value,
+            layer,
+        };
+    }
+    next.namedcount = list.namedcount.saturating_add(1);
+    next
+}
+
+// The list of these columns' preferences.
+pub fn list(wishes: &[(u8, Constructor)]) -> PreferenceList {
+    let mut list = none();
+    for (column, constructor) in wishes {
+        list = with(list, *column, *constructor);
+    }
+    list
 }
 
 pub fn single(c: Constructor) -> PreferenceList {
     with(none(), 7, c)
 }
 
-// The list with one named value more; where it is full, only their count grows.
-pub fn with_named(list: PreferenceList, owner: u8, value: i32, layer: u8) -> PreferenceList {
+// The list with these values in a layer of the preference at a place.
+pub fn with_layer<I: Iterator<Item = i32>>(
+    list: PreferenceList,
+    owner: u8,
+    layer: u8,
+    values: I,
+) -> PreferenceList
+    requires can { I.can_next values }
+    requires ends { IsFinite (I.remaining values) }
+{
     let mut next = list;
-    let namedcount = list.namedcount;
-    if namedcount < 64 {
-        let at = namedcount as usize;
-        next.named[at] = Named {
-            preference: owner,
-            value: value,
-            layer: layer,
+    for value in values {
+        next = with_named(next, owner, value, layer);
+    }
+    next
+}
+
+// What the level of a value comes back as: the level and the side, or the refusal.
+#[derive(Clone, Copy)]
+struct Answer(Result<Told, Refusal>);
+
+impl fmt::Display for Answer {
+    fn fmt<W: fmt::Write>(&self, f: &mut fmt::Formatter<W>) -> fmt::Result {
+        let told = match self.0 {
+            Ok(told) => told,
+            Err(refusal) => return write!(f, " {}", Refused(refusal)),
         };
-        next.namedcount = namedcount + 1;
-        return next;
-    }
-    next.namedcount = 65;
-    next
-}
-
-// The list with n values named, from one on, in a layer of the preference at place 0.
-pub fn with_names(list: PreferenceList, from: u8, n: u8, layer: u8) -> PreferenceList {
-    let mut next = list;
-    let mut k: u8 = 0;
-    while k < n {
-        next = with_named(next, 0, value_of(from, k), layer);
-        k += 1;
-    }
-    next
-}
-
-fn value_of(from: u8, k: u8) -> i32 {
-    (from as u32 + k as u32) as i32
-}
-
-fn show_side(side: Side) {
-    match side {
-        Side::Below => show::text(b" below"),
-        Side::Inside => show::text(b" inside"),
-        Side::Above => show::text(b" above"),
-    }
-}
-
-// What the level of a value comes back as, and its side.
-pub fn show_level(list: PreferenceList, place: u32, value: i32) {
-    let answer = levels::level(list, place, value);
-    match answer {
-        LevelAnswer::Level(n, side) => {
-            show::number(n as u64);
-            show_side(side);
-        }
-        LevelAnswer::Refused(k) => {
-            show::text(b" refused");
-            show::number(k as u64);
+        let level = told.level;
+        match told.side {
+            Side::Below => write!(f, " {level} below"),
+            Side::Inside => write!(f, " {level} inside"),
+            Side::Above => write!(f, " {level} above"),
         }
     }
 }
 
-// The levels of values under the preference at place 0, and their sides.
-pub fn show_levels(label: &[u8], list: PreferenceList, values: &[i32]) {
-    show::text(label);
-    let mut i: usize = 0;
-    while i < values.len() {
-        show_level(list, 0, values[i]);
-        i += 1;
-    }
-    show::end_line();
+pub fn show_level(rt: &impl Print, list: PreferenceList, place: u32, value: i32) -> io::Result<()> {
+    rt.print(Answer(levels::level(list, place, value)))
 }
 
-// The greatest level of a form, once for each part.
-pub fn show_max(label: &[u8], c: Constructor) {
-    show::text(label);
-    let list = single(c);
-    let parts = levels::parts(list);
-    let mut k: usize = 0;
-    while k < parts {
-        show::number(levels::part_max(list, k));
-        k += 1;
+// The levels of values under the preference at a place, and their sides.
+pub fn show_levels_at(
+    rt: &impl Print,
+    label: &str,
+    list: PreferenceList,
+    place: u32,
+    values: &[i32],
+) -> io::Result<()> {
+    print!(rt; "{label}")?;
+    for value in values {
+        show_level(rt, list, place, *value)?;
     }
-    show::end_line();
+    println!(rt)
+}
+
+// The same at place 0.
+pub fn show_levels(
+    rt: &impl Print,
+    label: &str,
+    list: PreferenceList,
+    values: &[i32],
+) -> io::Result<()> {
+    show_levels_at(rt, label, list, 0, values)
+}
+
+// The greatest level of each part.
+pub fn show_greatest(rt: &impl Print, label: &str, list: PreferenceList) -> io::Result<()> {
+    print!(rt; "{label}")?;
+    for k in 0..levels::parts(list) {
+        print!(rt; " {}", levels::part_max(list, k))?;
+    }
+    println!(rt)
 }
 
 // What a list comes back as, asked for the level of 0 at place 0, and what its own check gives.
-pub fn show_list(label: &[u8], list: PreferenceList) {
-    show::text(label);
-    show::number(preference::refusal(list) as u64);
-    show_level(list, 0, 0);
-    show::end_line();
+pub fn show_list(rt: &impl Print, label: &str, list: PreferenceList) -> io::Result<()> {
+    let number = preference::check(list).map_or_else(u8::from, |()| 0);
+    println!(rt; "{label} {number}{}", Answer(levels::level(list, 0, 0)))
 }
 
-// The same of the list of one preference.
-pub fn show_single(label: &[u8], c: Constructor) {
-    show_list(label, single(c));
+// The same of several lists, each made of what its case holds.
+pub fn show_lists<T: Copy, F: Fn(T) -> PreferenceList>(
+    rt: &impl Print,
+    cases: &[(&str, T)],
+    list_of: F,
+) -> io::Result<()>
+    requires { F.IsAlwaysCallable list_of }
+{
+    for (label, case) in cases {
+        show_list(rt, *label, list_of(*case))?;
+    }
+    Ok(())
 }

@@ -4,14 +4,15 @@
 // is not part of this repository.
 #![tactic(auto)]
 
+use std::io;
+
 mod calls;
 mod logs;
 mod small;
-mod small_pairs;
-mod totals;
+mod windows;
 
-fn main() {
-    small::all();
-    small_pairs::all();
-    logs::all();
+fn main(rt: HostRuntime) -> io::Result<()> {
+    small::lowest(&rt)?;
+    small::pairs(&rt)?;
+    logs::all(&rt)
 }

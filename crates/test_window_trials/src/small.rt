@@ -1,105 +1,66 @@
-// All 729 logs of three rows with levels 0 to 2 under two LOWEST wishes.
-ghost use Rattle.std.specs.Prelude.{◌≤◌, ◌*◌};
+// All logs of three rows with few values, each with the windows 1, 2 and 3.
+ghost use Rattle.std.specs.Prelude.{◌<◌, ◌≤◌};
 
-use crate::{calls, totals};
-use preference::PreferenceList;
-use test_support::{show, trial};
+use crate::windows::{self, Tried};
+use std::alloc::{AllocError, Global};
+use std::io;
+use test_support::short_logs::run;
+use test_support::{counts, nested, trial};
 
-const POWERS: [u32; 6] = [243, 81, 27, 9, 3, 1];
+const WINDOWS: [u32; 3] = [1, 2, 3];
 
-// Digit of a log's number in base 3, highest first: two for each row.
-fn digit(number: u32, place: usize) -> u32 {
-    if 6 <= place {
-        return 0;
-    }
-    let powers = POWERS;
-    let p = powers[place];
-    if p == 0 { 0 } else { number / p % 3 }
-}
-
-// The level at a row and column of the log; columns 1 and 2 are wished for.
-fn level(number: u32, row: usize, column: usize) -> u32 {
-    if 3 <= row {
-        return 0;
-    }
-    if column == 1 {
-        return digit(number, 2 * row);
-    }
-    if column == 2 {
-        return digit(number, 2 * row + 1);
-    }
-    0
-}
-
-fn value(number: u32, i: usize) -> i32 {
-    if i % 8 == 0 {
-        return 1;
-    }
-    let v = level(number, i / 8, i % 8);
-    if v == 0 {
-        return 0;
-    }
-    if v == 1 { 1 } else { 2 }
-}
-
-fn fill_log(number: u32, log: &mut [i32]) {
-    let mut i: usize = 0;
-    while i < log.len() {
-        log[i] = value(number, i);
-        i += 1;
-    }
-}
-
-fn fill_table(number: u32, table: &mut [u32]) {
-    let mut i: usize = 0;
-    while i < table.len() {
-        table[i] = level(number, i / 16, i % 16 + 1);
-        i += 1;
-    }
-}
-
-fn list() -> PreferenceList {
-    let one = trial::with(trial::none(), 1, trial::lowest(0, 2, 1));
-    trial::with(one, 2, trial::lowest(0, 2, 1))
-}
-
-// 1 where the engine differs on a log with a window of w.
-fn differs(number: u32, w: u32) -> u64
-    ensures { result ≤ 1 }
+// The three digits of a number, highest first: one for each row.
+fn digits(number: u32, base: u32) -> [u8; 3]
+    requires { (0 < base) × (base ≤ 10) }
 {
-    let mut log = [0i32; 24];
-    let mut table = [0u32; 48];
-    fill_log(number, &mut log);
-    fill_table(number, &mut table);
-    if calls::agrees(list(), &log, &table, w) {
-        0
-    } else {
-        1
-    }
+    let places = [number / base / base, number / base, number];
+    places.map(|place| (place % base) as u8)
 }
 
-fn best(number: u32) -> u64
-    ensures { result ≤ 40 }
-{
-    let mut table = [0u32; 48];
-    fill_table(number, &mut table);
-    totals::best(&table, 3)
+fn show(rt: &impl Print, label: &str, tried: &[Tried]) -> io::Result<()> {
+    println!(rt;
+        "{label} {} windows 3 best {} differing {}",
+        tried.len(),
+        counts::total(tried, |t| t.best),
+        counts::total(tried, |t| t.differing)
+    )
 }
 
-pub fn all() {
-    let mut bad: u64 = 0;
-    let mut marked: u64 = 0;
-    let mut number: u32 = 0;
-    while number < 729 {
-        bad += differs(number, 1) + differs(number, 2) + differs(number, 3);
-        marked += best(number);
-        number += 1;
+// A log with levels 0 to 2 under two LOWEST wishes: a row's digit gives both.
+fn try_lowest(alloc: Global, number: u32) -> Result<Tried, AllocError> {
+    let wishes = [(1, trial::lowest(0, 2, 1)), (2, trial::lowest(0, 2, 1))];
+    let mut rows = Vec::new(alloc);
+    let mut table = Vec::new(alloc);
+    for digit in digits(number, 9) {
+        let (a, b) = (digit / 3, digit % 3);
+        rows.push(run(1, i32::from(a), i32::from(b)))?;
+        table.push(vec![in alloc; u32::from(a), u32::from(b)]?)?;
     }
-    show::text(b"logs");
-    show::number(number as u64);
-    show::text(b" windows 3 best");
-    show::number(marked);
-    show::text(b" differing");
-    show::number(bad);
-    show::end_line();
+    let list = trial::list(&wishes);
+    windows::try_windows(alloc, list, rows.as_slice(), table.as_slice(), &WINDOWS)
+}
+
+// A log with values 0 to 4 under kind 08, wished at 2, and 0 or 1 under LOWEST.
+fn try_pairs(alloc: Global, number: u32) -> Result<Tried, AllocError> {
+    let list = trial::list(&[
+        (1, trial::between_trivial(0, 4, 1, 2, 2)),
+        (2, trial::lowest(0, 1, 1)),
+    ]);
+    let rows = digits(number, 10).map(|digit| run(1, i32::from(digit / 2), i32::from(digit % 2)));
+    let table = nested::table_of(alloc, list, &rows)?;
+    windows::try_windows(alloc, list, &rows, table.as_slice(), &WINDOWS)
+}
+
+pub fn lowest(rt: &(impl Print + AllocGlobal)) -> io::Result<()> {
+    let tried: Vec<Tried> = (0..729)
+        .map(|number| try_lowest(rt.alloc(), number))
+        .try_collect(rt.alloc())?;
+    show(rt, "logs", tried.as_slice())
+}
+
+pub fn pairs(rt: &(impl Print + AllocGlobal)) -> io::Result<()> {
+    let tried: Vec<Tried> = (0..1000)
+        .map(|number| try_pairs(rt.alloc(), number))
+        .try_collect(rt.alloc())?;
+    show(rt, "logs of kind 08", tried.as_slice())
 }

@@ -2,170 +2,109 @@
 // that are refused. The file stdout holds what documents 01 and 02 say of them.
 #![tactic(auto)]
 
+use calls::ENOUGH;
+use preference::PreferenceList;
+use std::io;
+use test_support::lent;
+use test_support::room::Room;
+use test_support::short_logs::{self, run};
+
 mod calls;
 
-use calls::{MARK, WORD};
-use preference::PreferenceList;
-use test_support::short_logs;
-
-fn three_rows(label: &[u8], threes: &[i32], w: u32) {
-    let mut log = [0i32; 24];
-    let mut marks = [MARK; 3];
-    let mut work = [WORD; 16];
-    short_logs::fill(threes, &mut log);
-    calls::show(
-        label,
-        short_logs::two_lowest(2),
-        &log,
-        &mut marks,
-        &mut work,
-        w,
-    );
-}
-
-fn four_rows(label: &[u8], threes: &[i32], w: u32) {
-    let mut log = [0i32; 32];
-    let mut marks = [MARK; 4];
-    let mut work = [WORD; 16];
-    short_logs::fill(threes, &mut log);
-    calls::show(
-        label,
-        short_logs::two_lowest(5),
-        &log,
-        &mut marks,
-        &mut work,
-        w,
-    );
+// LOWEST over 0 to the greatest level by 1 on columns 1 and 2.
+fn show_small(
+    rt: &impl Print,
+    label: &str,
+    greatest: u16,
+    rows: &[[i32; 8]],
+    w: u32,
+) -> io::Result<()> {
+    let list = short_logs::lowest_to(&[greatest, greatest]);
+    let room = Room {
+        marks: rows.len(),
+        work: 16,
+    };
+    calls::show(rt, label, list, rows.as_flattened(), room, w)
 }
 
 // The newest entry compared first makes three compares of the first; 000's release at the end of a pass five of the
 // second; late release marks row 2 of the third; P10 tells the machine that ends or forgets.
-fn small() {
-    let first = [1i32, 0, 1, 1, 1, 0, 1, 0, 2];
-    let second = [1i32, 0, 1, 1, 0, 1, 1, 0, 0, 1, 0, 0];
-    let third = [1i32, 0, 1, 1, 1, 0, 1, 2, 0];
-    let tenth = [1i32, 2, 1, 1, 1, 2, 1, 0, 5, 1, 1, 1];
-    three_rows(b"(0,1)(1,0)(0,2) w 2:", &first, 2);
-    four_rows(b"(0,1)(0,1)(0,0)(0,0) w 1:", &second, 1);
-    three_rows(b"(0,1)(1,0)(2,0) w 1:", &third, 1);
-    four_rows(b"P10 (2,1)(1,2)(0,5)(1,1) w 2:", &tenth, 2);
+fn small(rt: &impl Print) -> io::Result<()> {
+    let first = [run(1, 0, 1), run(1, 1, 0), run(1, 0, 2)];
+    let second = [run(1, 0, 1), run(1, 0, 1), run(1, 0, 0), run(1, 0, 0)];
+    let third = [run(1, 0, 1), run(1, 1, 0), run(1, 2, 0)];
+    let tenth = [run(1, 2, 1), run(1, 1, 2), run(1, 0, 5), run(1, 1, 1)];
+    show_small(rt, "(0,1)(1,0)(0,2) w 2", 2, &first, 2)?;
+    show_small(rt, "(0,1)(0,1)(0,0)(0,0) w 1", 5, &second, 1)?;
+    show_small(rt, "(0,1)(1,0)(2,0) w 1", 2, &third, 1)?;
+    show_small(rt, "P10 (2,1)(1,2)(0,5)(1,1) w 2", 5, &tenth, 2)
 }
 
-fn no_rows() {
-    let log = [0i32; 0];
-    let mut marks = [MARK; 0];
-    let mut work = [WORD; 2];
-    calls::show(
-        b"P11 no run, w 1:",
-        short_logs::two_lowest(2),
-        &log,
-        &mut marks,
-        &mut work,
-        1,
-    );
+// The least work list that a window of 1 takes.
+fn no_rows(rt: &impl Print) -> io::Result<()> {
+    let list = short_logs::lowest_to(&[2, 2]);
+    let room = Room { marks: 0, work: 2 };
+    calls::show(rt, "P11 no run, w 1", list, &[], room, 1)
 }
 
 // The Harbour log with room for every window.
-fn harbour_by(label: &[u8], list: PreferenceList, w: u32) {
-    let mut log = [0i32; 40];
-    let mut marks = [MARK; 5];
-    let mut work = [WORD; 2060];
-    short_logs::fill_harbour(&mut log);
-    calls::show(label, list, &log, &mut marks, &mut work, w);
+fn show_windows(
+    rt: &impl Print,
+    label: &str,
+    list: PreferenceList,
+    windows: &[u32],
+) -> io::Result<()> {
+    let rows = short_logs::harbour();
+    for w in windows {
+        let label = format_args!("{label}, w {w}");
+        calls::show(rt, label, list, rows.as_flattened(), ENOUGH, *w)?;
+    }
+    Ok(())
 }
 
-fn harbour(label: &[u8], w: u32) {
-    harbour_by(label, short_logs::harbour_list(), w);
-}
-
-// With kind 08 for AROUND.
-fn harbour_pairs(label: &[u8], w: u32) {
-    harbour_by(label, short_logs::harbour_pairs(), w);
-}
-
-fn windows() {
-    harbour(b"Harbour log, w 1:", 1);
-    harbour(b"Harbour log, w 2:", 2);
-    harbour(b"Harbour log, w 3:", 3);
-    harbour(b"Harbour log, w 4:", 4);
-    harbour(b"Harbour log, w 5:", 5);
-    harbour(b"Harbour log, w 6:", 6);
-    harbour(b"Harbour log, w 1024:", 1024);
-    harbour(b"Harbour log, w 0:", 0);
-    harbour(b"Harbour log, w 1025:", 1025);
-    harbour(b"Harbour log, w 4294967295:", 4294967295);
-}
-
-fn windows_by_pairs() {
-    harbour_pairs(b"Harbour log with kind 08, w 1:", 1);
-    harbour_pairs(b"Harbour log with kind 08, w 2:", 2);
-    harbour_pairs(b"Harbour log with kind 08, w 4:", 4);
+fn windows(rt: &impl Print) -> io::Result<()> {
+    let all = [1, 2, 3, 4, 5, 6, 1024, 0, 1025, u32::MAX];
+    show_windows(rt, "Harbour log", short_logs::harbour_list(), &all)?;
+    let pairs = short_logs::harbour_pairs();
+    show_windows(rt, "Harbour log with kind 08", pairs, &[1, 2, 4])
 }
 
 // The Harbour log with one figure changed, in lists of these lengths.
-fn lent(label: &[u8], cubic_metres: i32, marks: &mut [u8], work: &mut [u32], w: u32) {
-    let mut log = [0i32; 40];
-    short_logs::fill_harbour(&mut log);
-    log[9] = cubic_metres;
-    calls::show(label, short_logs::harbour_list(), &log, marks, work, w);
+fn show_lent(
+    rt: &impl Print,
+    label: &str,
+    cubic_metres: i32,
+    marks: usize,
+    work: usize,
+    w: u32,
+) -> io::Result<()> {
+    let mut rows = short_logs::harbour();
+    rows[1][1] = cubic_metres;
+    let list = short_logs::harbour_list();
+    let room = Room { marks, work };
+    calls::show(rt, label, list, rows.as_flattened(), room, w)
 }
 
-fn rooms() {
-    let mut four = [MARK; 4];
-    let mut five = [MARK; 5];
-    let mut eleven = [WORD; 11];
-    let mut twelve = [WORD; 12];
-    lent(b"Harbour log, 4 marks:", 1000, &mut four, &mut twelve, 1);
-    lent(
-        b"Harbour log, work list of 11, w 1:",
-        1000,
-        &mut five,
-        &mut eleven,
-        1,
-    );
-    lent(
-        b"Harbour log, 1001 cubic metres:",
-        1001,
-        &mut five,
-        &mut twelve,
-        1,
-    );
-    lent(
-        b"Harbour log, 1001 cubic metres, w 0:",
-        1001,
-        &mut five,
-        &mut twelve,
-        0,
-    );
-    lent(
-        b"Harbour log, work list of 12, w 1:",
-        1000,
-        &mut five,
-        &mut twelve,
-        1,
-    );
+fn rooms(rt: &impl Print) -> io::Result<()> {
+    show_lent(rt, "Harbour log, 4 marks", 1000, 4, 12, 1)?;
+    show_lent(rt, "Harbour log, work list of 11, w 1", 1000, 5, 11, 1)?;
+    show_lent(rt, "Harbour log, 1001 cubic metres", 1001, 5, 12, 1)?;
+    show_lent(rt, "Harbour log, 1001 cubic metres, w 0", 1001, 5, 12, 0)?;
+    show_lent(rt, "Harbour log, work list of 12, w 1", 1000, 5, 12, 1)
 }
 
-fn odd_log() {
-    let mut log = [0i32; 39];
-    let mut marks = [MARK; 5];
-    let mut work = [WORD; 16];
-    short_logs::fill_harbour(&mut log);
-    calls::show(
-        b"Harbour log, 39 numbers:",
-        short_logs::harbour_list(),
-        &log,
-        &mut marks,
-        &mut work,
-        1,
-    );
+fn odd_log(rt: &impl Print) -> io::Result<()> {
+    let rows = short_logs::harbour();
+    let odd = lent::front(rows.as_flattened(), 39);
+    let list = short_logs::harbour_list();
+    let room = Room { marks: 5, work: 16 };
+    calls::show(rt, "Harbour log, 39 numbers", list, odd, room, 1)
 }
 
-fn main() {
-    small();
-    no_rows();
-    windows();
-    windows_by_pairs();
-    rooms();
-    odd_log();
+fn main(rt: HostRuntime) -> io::Result<()> {
+    small(&rt)?;
+    no_rows(&rt)?;
+    windows(&rt)?;
+    rooms(&rt)?;
+    odd_log(&rt)
 }

@@ -1,4 +1,3 @@
 pub mod Letters
 pub mod Text
-pub mod Prints
 pub mod Laws

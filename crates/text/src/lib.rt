@@ -1,92 +1,62 @@
-// Texts put into lent bytes one after the other. Every function takes every place and gives the place after its text.
-// A store past the bytes' end does nothing.
+// Numbers put out as text. They are printed by hand, since the library's `write!` says what bytes it wrote only of a
+// `String`, and the product takes no memory.
 #![tactic(auto)]
 
-ghost use Rattle.std.specs.Prelude.{◌≡◌, [], ◌∷◌, nat_abs};
+ghost use Rattle.std.specs.Prelude.{◌≡◌, nat_abs};
+ghost use Rattle.output.specs.Writes.{Writes};
 ghost use Rattle.text.specs.Text.{decimal, sign, signed, decimals, hundredths};
-ghost use Rattle.text.specs.Prints.{Prints};
 
-// No text goes past this place, so that no place can wrap.
-const TEXT_END: usize = 4294967296;
+use output::Output;
 
-pub fn put_byte(out: &mut [u8], at: usize, b: u8) -> usize
-    ensures { Prints out.old out.new at result (b ∷ []) }
+/// The number n in base ten.
+#[tactic(auto, using(crate::specs::Laws::Text::figures, output::specs::Laws::Writes::writing))]
+pub fn put_decimal(out: &mut Output<'_>, n: u64)
+    ensures { Writes out.old out.new (decimal n) }
 {
-    if at < TEXT_END {
-        word::put_u8(out, at, b);
-        return at + 1;
+    if 10 <= n {
+        put_decimal(out, n / 10);
     }
-    at
+    out.put_byte(b'0' + (n % 10) as u8);
 }
 
-pub fn put_bytes(out: &mut [u8], at: usize, bytes: &[u8]) -> usize
-    ensures { Prints out.old out.new at result bytes.now }
-{
-    let mut next = at;
-    let mut j: usize = 0;
-    while j < bytes.len() {
-        next = put_byte(out, next, bytes[j]);
-        j += 1;
-    }
-    next
-}
-
-// The letter of the figure 0.
-const ZERO: u64 = b'0' as u64;
-
-// The number n in base ten.
-pub fn put_decimal(out: &mut [u8], at: usize, n: u64) -> usize
-    ensures { Prints out.old out.new at result (decimal n) }
-{
-    if n < 10 {
-        return put_byte(out, at, (ZERO + n) as u8);
-    }
-    let next = put_decimal(out, at, n / 10);
-    put_byte(out, next, (ZERO + n % 10) as u8)
-}
-
-// The size of a signed number: of the two gaps one is 0.
-fn magnitude(v: i32) -> u64
-    ensures { result ≡ nat_abs v }
-{
-    arith::signed_gap(v, 0) + arith::signed_gap(0, v)
-}
-
-fn put_sign(out: &mut [u8], at: usize, v: i32) -> usize
-    ensures { Prints out.old out.new at result (sign v) }
+#[tactic(auto, using(crate::specs::Laws::Sign::signs, output::specs::Laws::Writes::writing))]
+fn put_sign(out: &mut Output<'_>, v: i32)
+    ensures { Writes out.old out.new (sign v) }
 {
     if v < 0 {
-        return put_byte(out, at, b'-');
+        out.put_byte(b'-');
     }
-    at
 }
 
-// The signed number v in base ten, a minus before a negative one.
-pub fn put_signed(out: &mut [u8], at: usize, v: i32) -> usize
-    ensures { Prints out.old out.new at result (signed v) }
+/// The signed number v in base ten, a minus before a negative one.
+#[tactic(auto, using(output::specs::Laws::Writes::writing), unfolding(crate::specs::Text::signed))]
+pub fn put_signed(out: &mut Output<'_>, v: i32)
+    ensures { Writes out.old out.new (signed v) }
 {
-    let next = put_sign(out, at, v);
-    put_decimal(out, next, magnitude(v))
+    put_sign(out, v);
+    put_decimal(out, u64::from(v.unsigned_abs()));
 }
 
 // A whole is so many hundredths.
 const WHOLE: u64 = 100;
 
 // The point and the two figures after it.
-fn put_decimals(out: &mut [u8], at: usize, size: u64) -> usize
-    ensures { Prints out.old out.new at result (decimals size) }
+#[tactic(auto, using(output::specs::Laws::Writes::byte_by_byte))]
+fn put_decimals(out: &mut Output<'_>, size: u64)
+    ensures { Writes out.old out.new (decimals size) }
 {
-    let after_point = put_byte(out, at, b'.');
-    let after_tenths = put_byte(out, after_point, (ZERO + size / 10 % 10) as u8);
-    put_byte(out, after_tenths, (ZERO + size % 10) as u8)
+    out.put_byte(b'.');
+    out.put_byte(b'0' + (size / 10 % 10) as u8);
+    out.put_byte(b'0' + (size % 10) as u8);
 }
 
-// The number v of hundredths, with two decimals. The sign is that of v, so that it stays where the whole part is 0.
-pub fn put_hundredths(out: &mut [u8], at: usize, v: i32) -> usize
-    ensures { Prints out.old out.new at result (hundredths v) }
+/// The count of hundredths, with two decimals. The sign is that of the count: it stays where the whole part is 0.
+#[tactic(auto, using(output::specs::Laws::Writes::writing), unfolding(crate::specs::Text::hundredths))]
+pub fn put_hundredths(out: &mut Output<'_>, count: i32)
+    ensures { Writes out.old out.new (hundredths count) }
 {
-    let size = magnitude(v);
-    let after_sign = put_sign(out, at, v);
-    let after_whole = put_decimal(out, after_sign, size / WHOLE);
-    put_decimals(out, after_whole, size)
+    let size = u64::from(count.unsigned_abs());
+    put_sign(out, count);
+    put_decimal(out, size / WHOLE);
+    put_decimals(out, size);
 }

@@ -2,7 +2,6 @@
 use Rattle.std.specs.Prelude.{ℕ, ◌+◌, ◌*◌, ◌≤◌, ◌≡◌, ◌||◌, List, ltb, eqb}
 use Rattle.limits.specs.Limits.{max_window}
 use Rattle.laws.specs.Checks.{◌gives◌, ◌then◌}
-use Rattle.laws.specs.Outcome.{Outcome, accepted, refused}
 use Rattle.run_log.specs.Log.{Log, row_count, marks_refusal}
 use Rattle.preference.specs.Valid.{list_refusal}
 use Rattle.preference.specs.declared.PreferenceList.{PreferenceList}
@@ -10,8 +9,6 @@ use Rattle.pareto.specs.Best.{competing, row_dominates}
 use Rattle.pareto.specs.Call.{Call}
 use Rattle.pareto.specs.Checked.{rows_refusal, checked_refusal}
 use Rattle.window_machine.specs.Machine.{State, machine}
-use Rattle.window.specs.declared.WindowAnswer.{WindowAnswer}
-use Rattle.window.specs.declared.WindowAnswer.TheVariants.{Compared, Refused}
 
 -- 10: "lent buffer too short, w not 1 to 1,024", the work list "at least 2 × (rows + w) numbers"
 unfoldable pub sizes_refusal : Log → ℕ → ℕ → ℕ → ℕ
@@ -36,11 +33,6 @@ window_call l log marks work w =
 -- the work list before and after a call: "Nothing lent changes on a refusal"; it "is free after an accepted call"
 abbrev pub WorkLeft : Call → List ℕ → List ℕ → Type 0
 WorkLeft c work work' = (c.refusal ≡ 0 → ⊥) → work' ≡ work
-
--- the number or the value that an answer stands for
-abbrev pub outcome_of : WindowAnswer → Outcome ℕ
-outcome_of (Compared n) = accepted n
-outcome_of (Refused k) = refused k
 
 -- what a call that no check refuses has
 pub record Runnable (l : PreferenceList) (log : Log) (marks work w : ℕ) : Type 0 where

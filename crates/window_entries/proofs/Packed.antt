@@ -3,23 +3,23 @@ use Prim.Native.Nat.{ℕ, zero, suc, ◌+◌, ◌-◌, ◌*◌, ◌≤◌, ◌<�
 use native.Mathlib.Omega.{arith}
 use native.Mathlib.Numerals.{add-one}
 use native.Mathlib.Nat.{zero-add}
-use mathlib.Core.Path.{◌≡◌, refl, sym, ap, ap₂, subst, ◌∙◌}
-use mathlib.Core.Bool.{Bool, true, false}
+use mathlib.Core.Path.{◌≡◌, refl, sym, ap, ◌∙◌}
+use mathlib.Core.Bool.{true, false}
 use mathlib.Core.List.{List, [], ◌∷◌, ◌++◌, append-nil, append_assoc}
-use lib.ListN.{get_or, set, length}
+use lib.ListN.{set, length}
 use Rattle.window_machine.specs.Machine.{Entry, keep, marked}
-use Rattle.window_entries.specs.Entries.{entry_at, entries, put_entry, Filtered}
+use Rattle.window_entries.specs.Entries.{entry_at, entries, put_entry, Test, Filtered}
 use Rattle.window_entries.specs.Laws.Entries.{entries_step, entries_done, entries_snoc, length_put, put_other, entries_put0}
 
 -- l is l₀ with its first i of n entries packed by the test p: m of them stay
-pub record Packed (p : Entry → Bool) (l₀ l : List ℕ) (n i m : ℕ) : Type 0 where
+pub record Packed (p : Test) (l₀ l : List ℕ) (n i m : ℕ) : Type 0 where
   pub ordered : m ≤ i
   pub within : i ≤ n
   pub long : length l ≡ length l₀
   pub rest : (j : ℕ) → i ≤ j → entry_at l j ≡ entry_at l₀ j
   pub done : entries l 0 m ++ keep p (entries l₀ i (n - i)) ≡ keep p (entries l₀ 0 n)
 
-module _ (p : Entry → Bool) (l₀ : List ℕ) (n : ℕ) where
+module _ (p : Test) (l₀ : List ℕ) (n : ℕ) where
   pub pack_start : Packed p l₀ l₀ n 0 0
   unfolding entries
   pack_start = record { ordered = omega arith; within = omega arith; long = refl; rest = λ j h. refl; done = let e : n - 0 ≡ n = omega arith in rw e }
@@ -50,68 +50,52 @@ module _ (p : Entry → Bool) (l₀ : List ℕ) (n : ℕ) where
             ∙ z.done;
       }
 
-  module _ {l : List ℕ} {i m : ℕ} (h : i < n) (z : Packed p l₀ l n i m) where
-    pub pack_skip : p (entry_at l₀ i) ≡ false → Packed p l₀ l n (i + 1) m
+  -- e is the entry at place i, as it was read
+  module _ {l : List ℕ} {i m : ℕ} (h : i < n) (z : Packed p l₀ l n i m) (e : Entry) (read : e ≡ entry_at l i) where
+    pub read_is : e ≡ entry_at l₀ i
+    read_is = read ∙ z.rest i (omega arith)
+
+    pub pack_skip : p e ≡ false → Packed p l₀ l n (i + 1) m
     pack_skip q = record {
       ordered = omega (arith, z.ordered);
       within = omega arith;
       long = z.long;
       rest = λ j k. z.rest j (omega arith);
-      done = rw (← (keep_no i h q)) z.done;
+      done = rw (← (keep_no i h (ap p (sym read_is) ∙ q))) z.done;
     }
 
-    pub pack_keep : p (entry_at l₀ i) ≡ true → 2 * n ≤ length l₀ → Packed p l₀ (put_entry l m (entry_at l₀ i).row (entry_at l₀ i).timestamp) n (i + 1) (m + 1)
+    pub pack_keep : p e ≡ true → 2 * n ≤ length l₀ → Packed p l₀ (put_entry l m e.row e.timestamp) n (i + 1) (m + 1)
     pack_keep q room = record {
       ordered = omega (arith, z.ordered);
       within = omega arith;
-      long = length_put l m (entry_at l₀ i).row (entry_at l₀ i).timestamp ∙ z.long;
-      rest = λ j k. put_other l m (entry_at l₀ i).row (entry_at l₀ i).timestamp j (omega (arith, z.ordered)) ∙ z.rest j (omega arith);
+      long = length_put l m e.row e.timestamp ∙ z.long;
+      rest = λ j k. put_other l m e.row e.timestamp j (omega (arith, z.ordered)) ∙ z.rest j (omega arith);
       done =
           ap (λ (x : List Entry). x ++ keep p (entries l₀ (i + 1) (n - (i + 1))))
-          (entries_put0 l m (entry_at l₀ i).row (entry_at l₀ i).timestamp (omega (arith, z.long, z.ordered)))
-          ∙ append_assoc (entries l 0 m) (entry_at l₀ i ∷ []) (keep p (entries l₀ (i + 1) (n - (i + 1))))
-          ∙ ap (λ (x : List Entry). entries l 0 m ++ x) (sym (keep_yes i h q))
+          (entries_put0 l m e.row e.timestamp (omega (arith, z.long, z.ordered)))
+          ∙ append_assoc (entries l 0 m) (e ∷ []) (keep p (entries l₀ (i + 1) (n - (i + 1))))
+          ∙ ap (λ (x : Entry). entries l 0 m ++ (x ∷ keep p (entries l₀ (i + 1) (n - (i + 1))))) read_is
+          ∙ ap (λ (x : List Entry). entries l 0 m ++ x) (sym (keep_yes i h (ap p (sym read_is) ∙ q)))
           ∙ z.done;
     }
-
-    -- the same, of an entry's row and timestamp as they were read
-    module _ (r s : ℕ) (row : r ≡ get_or l (2 * i) 0) (timestamp : s ≡ get_or l (2 * i + 1) 0) where
-      pub read_is : record { row = r; timestamp = s } ≡ entry_at l₀ i
-      unfolding entry_at
-      read_is = ap₂ (λ (a b : ℕ). record { row = a; timestamp = b }) row timestamp ∙ z.rest i (omega arith)
-
-      pub skip_read : p (record { row = r; timestamp = s }) ≡ false → Packed p l₀ l n (i + 1) m
-      skip_read q = pack_skip (ap p (sym read_is) ∙ q)
-
-      pub keep_read : p (record { row = r; timestamp = s }) ≡ true → 2 * n ≤ length l₀ → Packed p l₀ (put_entry l m r s) n (i + 1) (m + 1)
-      keep_read q room =
-          subst (λ (e : Entry). Packed p l₀ (put_entry l m e.row e.timestamp) n (i + 1) (m + 1)) (sym read_is) (pack_keep (ap p (sym read_is) ∙ q) room)
 
   pub pack_end : {l : List ℕ} {i m : ℕ} → n ≤ i → Packed p l₀ l n i m → entries l 0 m ≡ keep p (entries l₀ 0 n)
   unfolding keep
   pack_end {l} {i} {m} h z = sym (append-nil (entries l 0 m)) ∙ ap (λ (x : List Entry). entries l 0 m ++ keep p x) (sym (entries_done l₀ i n h)) ∙ z.done
 
--- the marks that the entries from i on still make
-module _ (p : Entry → Bool) (l : List ℕ) (n i : ℕ) (m : List ℕ) (h : i < n) where
-  pub mark_yes : p (entry_at l i) ≡ true
-      → marked (keep p (entries l i (n - i))) m ≡ marked (keep p (entries l (i + 1) (n - (i + 1)))) (set m (entry_at l i).row 1)
+-- the marks that the entries from i on still make, e at place i among them
+module _ (p : Test) (l : List ℕ) (n i : ℕ) (m : List ℕ) (h : i < n) (e : Entry) (read : e ≡ entry_at l i) where
+  pub mark_yes : p e ≡ true → marked (keep p (entries l i (n - i))) m ≡ marked (keep p (entries l (i + 1) (n - (i + 1)))) (set m e.row 1)
   unfolding marked
-  mark_yes q = rw (keep_yes p l n i h q)
+  mark_yes q = rw (keep_yes p l n i h (ap p (sym read) ∙ q), read)
 
-  pub mark_no : p (entry_at l i) ≡ false → marked (keep p (entries l i (n - i))) m ≡ marked (keep p (entries l (i + 1) (n - (i + 1)))) m
-  mark_no q = rw (keep_no p l n i h q)
+  pub mark_no : p e ≡ false → marked (keep p (entries l i (n - i))) m ≡ marked (keep p (entries l (i + 1) (n - (i + 1)))) m
+  mark_no q = rw (keep_no p l n i h (ap p (sym read) ∙ q))
 
-  pub mark_read : (e : Entry) → e ≡ entry_at l i → p e ≡ true
-      → marked (keep p (entries l i (n - i))) m ≡ marked (keep p (entries l (i + 1) (n - (i + 1)))) (set m e.row 1)
-  mark_read e q t = rw q (mark_yes (ap p (sym q) ∙ t))
-
-  pub leave_read : (e : Entry) → e ≡ entry_at l i → p e ≡ false → marked (keep p (entries l i (n - i))) m ≡ marked (keep p (entries l (i + 1) (n - (i + 1)))) m
-  leave_read e q t = mark_no (ap p (sym q) ∙ t)
-
-pub mark_end : (p : Entry → Bool) (l : List ℕ) (n i : ℕ) (m : List ℕ) → n ≤ i → marked (keep p (entries l i (n - i))) m ≡ m
+pub mark_end : (p : Test) (l : List ℕ) (n i : ℕ) (m : List ℕ) → n ≤ i → marked (keep p (entries l i (n - i))) m ≡ m
 unfolding marked keep
 mark_end p l n i m h = rw (entries_done l i n h)
 
-pub pack_filtered : (p : Entry → Bool) (l₀ l : List ℕ) (n i m : ℕ) → n ≤ i → Packed p l₀ l n i m → Filtered p l₀ l n m
+pub pack_filtered : (p : Test) (l₀ l : List ℕ) (n i m : ℕ) → n ≤ i → Packed p l₀ l n i m → Filtered p l₀ l n m
 pack_filtered p l₀ l n i m h z =
     record { few = omega (arith, z.ordered, z.within); long = z.long; kept = pack_end p l₀ n h z; rest = λ j k. z.rest j (omega (arith, z.within)) }

@@ -1,31 +1,26 @@
 -- A pass, read by read.
-use Prim.Native.Nat.{ℕ, suc, ◌+◌, ◌-◌, ◌*◌, ◌≤◌, ◌<◌}
-use native.Mathlib.Omega.{arith}
-use native.Mathlib.Nat.{add-zero}
-use mathlib.Core.Path.{◌≡◌, refl, sym, ap, ap₂, subst, ◌∙◌}
-use mathlib.Core.Bool.{Bool}
-use mathlib.Core.List.{List, ◌∷◌}
-use lib.ListN.{get_or, length}
+use Rattle.std.proofs.Common.{◌≡◌, sym, ap, ap₂, subst, ◌∙◌, arith, add-zero, ℕ, suc, ◌+◌, ◌-◌, ◌*◌, ◌≤◌, ◌<◌, List, ◌∷◌}
 use Rattle.window_machine.specs.Order.{Rising, Ordered}
 use Rattle.window_machine.specs.Laws.Order.{read_ordered}
 use Rattle.window_machine.specs.Machine.{Entry, State, read, pass}
 use Rattle.window_entries.specs.Entries.{entry_at, entries}
-use Rattle.window_step.specs.Work.{state_of, state_at, Ready, Read}
-use Rattle.window_passes.specs.Passes.{PassReady, Passed}
-use Rattle.window_step.specs.declared.Standing.{Standing}
 use Rattle.window_entries.specs.Laws.Entries.{entries_agree}
+use Rattle.window_step.specs.Work.{table_dominates, state_of}
+use Rattle.window_step.specs.Reads.{state_held, dominates_in, Ready, Same, Read}
+use Rattle.window_step.specs.Laws.Reads.{same_refl, same_trans}
+use Rattle.window_step.specs.declared.Machine.{Machine}
+use Rattle.window_passes.specs.Passes.{PassReady, Passed}
 
 -- i of the n entries that wait are read
-pub record Passing (dom : ℕ → ℕ → Bool) (w n : ℕ) (l m : List ℕ) (p : Standing) (l' m' : List ℕ) (p' : Standing) (i : ℕ) : Type 0 where
+pub record Passing (n : ℕ) (m m' : Machine) (i : ℕ) : Type 0 where
   pub within : i ≤ n
-  pub long : length l' ≡ length l
-  pub marks : length m' ≡ length m
-  pub state : pass dom w (entries l' (w + i) (n - i)) (state_at w l' m' p') ≡ pass dom w (entries l w n) (state_at w l m p)
-  pub ordered : Ordered (state_at w l' m' p')
-  pub fit : p'.occupied ≤ w
-  pub few : p'.overflow ≤ i
-  pub ticks : p'.clock ≡ p.clock + i
-  pub small : p'.count ≤ p.count + 1024 * i
+  pub same : Same m m'
+  pub state : pass (dominates_in m) m.capacity (entries m'.work.now (m.capacity + i) (n - i)) (state_held m')
+      ≡ pass (dominates_in m) m.capacity (entries m.work.now m.capacity n) (state_held m)
+  pub ordered : Ordered (state_held m')
+  pub few : m'.standing.overflow ≤ i
+  pub ticks : m'.standing.clock ≡ m.standing.clock + i
+  pub small : m'.standing.count ≤ m.standing.count + 1024 * i
 
 waiting_step : (l : List ℕ) (w i n : ℕ) → i < n → entries l (w + i) (n - i) ≡ entry_at l (w + i) ∷ entries l (w + (i + 1)) (n - (i + 1))
 unfolding entries
@@ -34,63 +29,62 @@ waiting_step l w i n h =
     let d : w + (i + 1) ≡ suc (w + i) = omega arith in
     rw (e, d)
 
-module _ {dom : ℕ → ℕ → Bool} {w n flags : ℕ} {l m : List ℕ} {p : Standing} (g : PassReady w n (length l) flags p) where
-  pub passing_start : Ordered (state_at w l m p) → Passing dom w n l m p l m p 0
+module _ {n : ℕ} {m : Machine} (g : PassReady n m) where
+  pub passing_start : Ordered (state_held m) → Passing n m m 0
   passing_start o = record {
-    ordered = o;
     within = omega arith;
-    long = refl;
-    marks = refl;
-    state = let e : n - 0 ≡ n = omega arith in rw (e, add-zero w);
-    fit = g.fit;
+    same = same_refl m;
+    state = let e : n - 0 ≡ n = omega arith in rw (e, add-zero m.capacity);
+    ordered = o;
     few = omega (arith, g.none);
     ticks = omega arith;
     small = omega arith;
   }
 
-  module _ {l₁ m₁ : List ℕ} {p₁ : Standing} {i : ℕ} (z : Passing dom w n l m p l₁ m₁ p₁ i) where
-    pub passing_ready : i < n → Ready w (length l₁) flags p₁
+  module _ {m₁ : Machine} {i : ℕ} (z : Passing n m m₁ i) where
+    pub passing_ready : i < n → Ready m₁
     passing_ready h = record {
-      narrow = g.narrow;
-      flagged = g.flagged;
-      fit = z.fit;
       few = omega (arith, g.rows, z.few);
-      room = omega (arith, g.room, z.few, z.long);
+      room = omega (arith, g.room, z.few, z.same.work_long, z.same.capacity);
       early = omega (arith, g.early, z.ticks);
       small = omega (arith, g.small, z.small);
     }
 
-    pub passing_rising : Rising (entries l₁ 0 p₁.occupied)
+    pub passing_rising : Rising (entries m₁.work.now 0 m₁.standing.occupied)
     unfolding state_of
     passing_rising = z.ordered.rises
 
-    pub passing_step : i < n → {r s : ℕ} → r ≡ get_or l₁ (2 * (w + i)) 0 → s ≡ get_or l₁ (2 * (w + i) + 1) 0
-        → {l₂ m₂ : List ℕ} {p₂ : Standing} → length l₂ ≡ length l₁ → length m₂ ≡ length m₁
-        → Read dom w (record { row = r; timestamp = s }) l₁ m₁ p₁ l₂ m₂ p₂ → Passing dom w n l m p l₂ m₂ p₂ (i + 1)
-    unfolding pass entry_at
-    passing_step h {r} {s} er es {l₂} {m₂} {p₂} long marks t = record {
+    pub passing_step : i < n → {x : Entry} → x ≡ entry_at m₁.work.now (m₁.capacity + i) → {m₂ : Machine} → Read x m₁ m₂ → Passing n m m₂ (i + 1)
+    unfolding pass
+    passing_step h {x} e {m₂} t = record {
       within = omega arith;
-      ordered = subst Ordered (sym t.state) (read_ordered dom w (record { row = r; timestamp = s }) (state_at w l₁ m₁ p₁) z.ordered);
-      long = long ∙ z.long;
-      marks = marks ∙ z.marks;
+      same = same_trans z.same t.same;
       state =
-          ap₂ (λ (x : List Entry) (st : State). pass dom w x st)
-          (entries_agree l₂ l₁ (w + (i + 1)) (n - (i + 1)) (λ j a b. t.onward.rest j (omega (arith, z.few))))
-          (t.state ∙ ap₂ (λ (a b : ℕ). read dom w (record { row = a; timestamp = b }) (state_at w l₁ m₁ p₁)) er es)
-          ∙ ap (λ (x : List Entry). pass dom w x (state_at w l₁ m₁ p₁)) (sym (waiting_step l₁ w i n h))
+          ap₂ (λ (xs : List Entry) (st : State). pass (dominates_in m) m.capacity xs st)
+          (entries_agree m₂.work.now m₁.work.now (m.capacity + (i + 1)) (n - (i + 1))
+          (λ j a b. t.onward.rest j (omega (arith, z.few, z.same.capacity))))
+          (t.state ∙ here)
+          ∙ ap (λ (xs : List Entry). pass (dominates_in m) m.capacity xs (state_held m₁)) (sym (waiting_step m₁.work.now m.capacity i n h))
           ∙ z.state;
-      fit = t.onward.fit;
+      ordered = subst Ordered (sym t.state) (read_ordered (dominates_in m₁) m₁.capacity x (state_held m₁) z.ordered);
       few = omega (arith, t.onward.few, z.few);
       ticks = omega (arith, t.onward.ticks, z.ticks);
       small = omega (arith, t.onward.small, z.small);
     }
+      where
+        here : read (dominates_in m₁) m₁.capacity x (state_held m₁)
+            ≡ read (dominates_in m) m.capacity (entry_at m₁.work.now (m.capacity + i)) (state_held m₁)
+        here =
+            ap₂ (λ (table : List ℕ) (w : ℕ). read (table_dominates table) w x (state_held m₁)) z.same.table z.same.capacity
+            ∙ ap (λ (y : Entry). read (dominates_in m) m.capacity y (state_held m₁))
+            (e ∙ ap (λ (w : ℕ). entry_at m₁.work.now (w + i)) z.same.capacity)
 
-    pub passing_end : n ≤ i → Passed dom w n l m p l₁ m₁ p₁
+    pub passing_end : n ≤ i → Passed n m m₁
     unfolding pass entries
     passing_end h = record {
+      same = z.same;
       state = (let e : n - i ≡ 0 = omega arith in rw e at z.state);
       ordered = z.ordered;
-      fit = z.fit;
       few = omega (arith, z.few, z.within);
       ticks = omega (arith, z.ticks, z.within);
       small = omega (arith, z.small, z.within);

@@ -1,18 +1,10 @@
--- Rows wait at the start, put into the work list one by one.
-use Prim.Native.Nat.{ℕ, ◌+◌, ◌*◌, ◌<◌}
-use native.Mathlib.Numerals.{add-one}
-use native.Mathlib.Omega.{arith}
-use mathlib.Core.Path.{◌≡◌, refl, sym, ap, ◌∙◌}
-use mathlib.Core.List.{List, [], ◌∷◌, ◌++◌, map}
-use lib.ListN.{length, take, get_or}
-use lib.Seq.{take-suc, take_all}
-use Rattle.window_machine.specs.Machine.{Entry, unread}
-use Rattle.window_entries.specs.Entries.{entries, put_entry}
-use Rattle.window_entries.specs.Laws.Entries.{entries_put}
-
-map_snoc : (xs : List ℕ) (r : ℕ) → map unread (xs ++ (r ∷ [])) ≡ map unread xs ++ (unread r ∷ [])
-map_snoc [] r = refl
-map_snoc (x ∷ xs) r = ap (λ (es : List Entry). unread x ∷ es) (map_snoc xs r)
+-- Rows wait at the start, put into the work list one by one; at the end those of the window are marked.
+use Rattle.std.proofs.Common.{◌≡◌, refl, sym, ap, ◌∙◌, add-one, ℕ, ◌+◌, ◌-◌, ◌*◌, ◌<◌, List, [], ◌∷◌, ◌++◌, map, length, take, get_or, set}
+use Rattle.std.proofs.lemmas.List.{map-append}
+use Rattle.std.proofs.Math.Seq.{take-suc}
+use Rattle.window_machine.specs.Machine.{Entry, marked, unread}
+use Rattle.window_entries.specs.Entries.{entry_at, entries, put_entry}
+use Rattle.window_entries.specs.Laws.Entries.{entries_put, mark_one}
 
 pub rows_none : (l : List ℕ) (w : ℕ) (rows : List ℕ) → entries l w 0 ≡ map unread (take 0 rows)
 unfolding entries
@@ -24,8 +16,11 @@ pub rows_more : (l : List ℕ) (w i : ℕ) (rows : List ℕ) → i < length rows
 rows_more l w i rows b h room =
     entries_put l w i (get_or rows i 0) 0 room
     ∙ ap (λ (es : List Entry). es ++ (unread (get_or rows i 0) ∷ [])) h
-    ∙ sym (map_snoc (take i rows) (get_or rows i 0))
+    ∙ sym (map-append unread (take i rows) (get_or rows i 0 ∷ []))
     ∙ rw (add-one i, take-suc rows i 0 b)
 
-pub rows_all : (l : List ℕ) (w i : ℕ) (rows : List ℕ) → i ≡ length rows → entries l w i ≡ map unread (take i rows) → entries l w (length rows) ≡ map unread rows
-rows_all l w i rows e h = rw (← e) (h ∙ ap (map unread) (take_all i rows (omega arith)))
+-- one entry more marks its row
+pub mark_read : (l : List ℕ) (n i : ℕ) (m : List ℕ) → i < n → (e : Entry) → e ≡ entry_at l i
+    → marked (entries l i (n - i)) m ≡ marked (entries l (i + 1) (n - (i + 1))) (set m e.row 1)
+unfolding entry_at
+mark_read l n i m h e q = mark_one l n i m h ∙ rw q

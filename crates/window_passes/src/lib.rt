@@ -2,107 +2,74 @@
 // and no call open to others: `window` meets what its calls require.
 #![tactic(auto)]
 
-ghost use Rattle.std.specs.Prelude.{◌≡◌, ◌+◌, ◌*◌, ◌≤◌, map, length};
-ghost use Rattle.limits.specs.Limits.{max_window};
+ghost use Rattle.std.specs.Prelude.{◌≡◌, map, length};
 ghost use Rattle.window_machine.specs.Machine.{marked, unread, machine};
 ghost use Rattle.window_machine.specs.Order.{Ordered};
-ghost use Rattle.window_entries.specs.Entries.{entries};
-ghost use Rattle.window_step.specs.Work.{table_dominates, state_at};
+ghost use Rattle.window_entries.specs.Entries.{entries, Holds};
+ghost use Rattle.window_step.specs.Work.{table_dominates};
+ghost use Rattle.window_step.specs.Reads.{state_held};
 ghost use Rattle.window_passes.specs.Passes.{Waits, PassReady, Passed, RunReady, PassesRan};
 
-use window_step::Standing;
+use pareto::Relation;
+use window_entries::Entry;
+use window_step::{Machine, Standing};
 
 // Reads the n entries that wait.
-fn one_pass(
-    table: &[u16],
-    w: usize,
-    n: usize,
-    work: &mut [u32],
-    marks: &mut [u8],
-    flags: &mut [u8],
-    p: Standing,
-) -> Standing
-    requires { PassReady w n (length work.old) (length flags.old) p
-        × Ordered (state_at w work.old marks.old p) }
-    ensures { Passed (table_dominates table.now) w n work.old marks.old p
-        work.new marks.new result }
+fn one_pass(machine: &mut Machine, n: usize)
+    requires { PassReady n machine.old × Ordered (state_held machine.old) }
+    ensures { Passed n machine.old machine.new }
 {
-    let mut standing = p;
-    let mut i: usize = 0;
-    while i < n {
-        let row = window_entries::word(work, 2 * (w + i));
-        let timestamp = window_entries::word(work, 2 * (w + i) + 1);
-        standing = window_step::read_row(table, w, work, marks, flags, standing, row, timestamp);
-        i += 1;
+    for i in 0..n {
+        let entry = machine.waiting(i);
+        machine.read(entry);
     }
-    standing
 }
 
 // Releases the whole window.
+#[tactic(auto, using(window_entries::specs::Laws::Entries::mark_all_end))]
 fn release_all(work: &[u32], occupied: usize, marks: &mut [u8])
-    requires { occupied ≤ max_window }
+    requires { Holds work.now occupied }
     ensures { marks.new ≡ marked (entries work.now 0 occupied) marks.old }
 {
-    let mut i: usize = 0;
-    while i < occupied {
-        window_entries::mark(marks, window_entries::word(work, 2 * i) as usize);
-        i += 1;
+    for i in 0..occupied {
+        let entry = window_entries::entry_at(work, i);
+        word::put(marks, entry.row as usize, 1);
     }
 }
 
 // Passes, at most `fuel`, until one sets nothing aside. What a pass set aside stands where the next one reads.
-fn all_passes(
-    table: &[u16],
-    w: usize,
-    n: usize,
-    fuel: usize,
-    work: &mut [u32],
-    marks: &mut [u8],
-    flags: &mut [u8],
-) -> usize
-    requires { RunReady w n fuel (length work.old) (length flags.old) }
-    ensures { PassesRan (table_dominates table.now) w n fuel work.old marks.old
-        marks.new result }
+fn all_passes(machine: &mut Machine, n: usize, fuel: usize)
+    requires { RunReady n fuel machine.old }
+    ensures { PassesRan n fuel machine.old machine.new }
 {
-    let mut standing = Standing {
-        occupied: 0,
-        overflow: 0,
-        clock: 0,
-        count: 0,
-    };
-    let mut left = fuel;
     let mut waiting = n;
-    while 0 < left {
-        let passed = one_pass(table, w, waiting, work, marks, flags, standing);
-        let occupied = passed.occupied;
-        let overflow = passed.overflow;
-        if overflow == 0 {
-            release_all(work, occupied, marks);
-            return passed.count;
+    for _pass in 0..fuel {
+        one_pass(machine, waiting);
+        waiting = machine.standing.overflow;
+        if waiting == 0 {
+            // lent by a name, so that the check knows what it holds
+            let work = &mut *machine.work;
+            release_all(work, machine.standing.occupied, machine.marks);
+            return;
         }
-        waiting = overflow;
-        standing = Standing {
-            occupied,
-            overflow: 0,
-            clock: passed.clock,
-            count: passed.count,
-        };
-        left -= 1;
+        machine.standing.overflow = 0;
     }
-    standing.count
 }
 
 // ---- the machine on rows of a table
 
 // These rows wait, from entry w on.
+#[tactic(auto, using(crate::proofs::Rows::rows_none, crate::proofs::Rows::rows_more))]
 fn fill_waiting(work: &mut [u32], w: usize, rows: &[usize])
     requires { Waits w rows.now (length work.old) }
     ensures { entries work.new w (length rows.now) ≡ map unread rows.now }
 {
-    let mut i: usize = 0;
-    while i < rows.len() {
-        window_entries::put_entry(work, w + i, rows[i] as u32, 0);
-        i += 1;
+    for (i, row) in rows.iter().enumerate() {
+        let unread = Entry {
+            row: *row as u32,
+            timestamp: 0,
+        };
+        window_entries::put_entry(work, w + i, unread);
     }
 }
 
@@ -119,9 +86,18 @@ pub fn run_rows(
         × (marks.new
         ≡ (machine (table_dominates table.now) w rows.now (length marks.old)).marks) }
 {
-    word::clear(marks);
+    marks.fill(0);
     fill_waiting(work, w, rows);
     let n = rows.len();
-    let mut flags = [0u8; limits::MAX_WINDOW as usize];
-    all_passes(table, w, n, n * n + 1, work, marks, &mut flags)
+    let mut flags = [Relation::Equal; limits::MAX_WINDOW as usize];
+    let mut machine = Machine {
+        table,
+        capacity: w,
+        work,
+        marks,
+        flags: &mut flags,
+        standing: Standing::default(),
+    };
+    all_passes(&mut machine, n, n * n + 1);
+    machine.standing.count
 }

@@ -1,4 +1,4 @@
 pub mod Comparing
-pub mod Scanning
+pub mod Compares
 pub mod Judging
 pub mod Releasing

@@ -1,60 +1,45 @@
 -- The release before a row is judged, on the lists that hold the machine's state.
-use Prim.Native.Nat.{ℕ, ◌≤◌}
-use native.Mathlib.Omega.{arith}
-use mathlib.Core.Path.{◌≡◌, ap, ◌∙◌}
-use mathlib.Core.Bool.{Bool}
-use mathlib.Core.List.{List}
-use lib.ListN.{length}
-use Rattle.window_machine.specs.Machine.{State, keep, marked, older, younger, release, judge, read}
-use Rattle.window_entries.specs.Entries.{entries, Filtered, Released}
+use Rattle.std.proofs.Common.{◌≡◌, ap, ◌∙◌, arith, ℕ, ◌+◌, ◌≤◌, List}
+use Rattle.window_machine.specs.Machine.{release, read}
+use Rattle.window_entries.specs.Entries.{entries, Released}
 use Rattle.window_entries.specs.Laws.Entries.{entries_agree}
-use Rattle.window_step.specs.Work.{state_of, state_at, Ready, Judged, Read}
+use Rattle.window_step.specs.Work.{state_of}
+use Rattle.window_step.specs.Reads.{state_held, Same, Judged, Read}
+use Rattle.window_step.specs.Laws.Reads.{same_trans}
+use Rattle.window_step.specs.declared.Machine.{Machine}
 use Rattle.window_step.specs.declared.Standing.{Standing}
 
--- the release before it
-module _ (w s : ℕ) (l l' m m' : List ℕ) (occupied occupied' aside clock count : ℕ) (fit : occupied ≤ w) (f : Filtered (younger s) l l' occupied occupied')
-    (e : m' ≡ marked (keep (older s) (entries l 0 occupied)) m) where
-  release_is : state_of w l' m' occupied' aside clock count ≡ release s (state_of w l m occupied aside clock count)
-  unfolding release state_of
-  release_is = λ i. record { window = f.kept i; overflow = same i; marks = e i; clock = clock; count = count }
-    where
-      same : entries l' w aside ≡ entries l w aside
-      same = entries_agree l' l w aside (λ j p t. f.rest j (omega arith))
+release_is : (w s : ℕ) (l l' m m' : List ℕ) (occupied occupied' aside clock count : ℕ) → occupied ≤ w → Released s l l' occupied occupied' m m'
+    → state_of w l' m' occupied' aside clock count ≡ release s (state_of w l m occupied aside clock count)
+unfolding release state_of
+release_is w s l l' m m' occupied occupied' aside clock count fit f =
+    λ i. record { window = f.filtered.kept i; overflow = same i; marks = f.marks_are i; clock = clock; count = count }
+  where
+    same : entries l' w aside ≡ entries l w aside
+    same = entries_agree l' l w aside (λ j p t. f.filtered.rest j (omega arith))
 
-  -- a read whose judgement on the lists after the release is known
-  read_is : (dom : ℕ → ℕ → Bool) (r : ℕ) (st : State) → st ≡ judge dom w r (state_of w l' m' occupied' aside clock count)
-      → st ≡ read dom w (record { row = r; timestamp = s }) (state_of w l m occupied aside clock count)
+-- the machine m₁ is m with its older entries released, m' is m₁ with row r judged
+module _ {m m₁ m' : Machine} {s r : ℕ} (e : Same m m₁)
+    (f : Released s m.work.now m₁.work.now m.standing.occupied m₁.standing.occupied m.marks.now m₁.marks.now)
+    (stands : m₁.standing ≡ record m.standing { occupied = m₁.standing.occupied }) (j : Judged r m₁ m') where
+  released : state_held m₁ ≡ release s (state_held m)
+  released =
+      rw (stands, e.capacity)
+      (release_is m.capacity s m.work.now m₁.work.now m.marks.now m₁.marks.now m.standing.occupied m₁.standing.occupied
+      m.standing.overflow m.standing.clock m.standing.count m.fit f)
+
+  overflow_is : m₁.standing.overflow ≡ m.standing.overflow
+  overflow_is = ap (λ (p : Standing). p.overflow) stands
+
+  pub read_released : Read (record { row = r; timestamp = s }) m m'
   unfolding read
-  read_is dom r st q = q ∙ ap (judge dom w r) release_is
-
--- ---- the release, and then the judgement
-
-abbrev pub holding : ℕ → Standing → Standing
-holding occupied p = record { occupied = occupied; overflow = p.overflow; clock = p.clock; count = p.count }
-
-module _ {w s occupied size : ℕ} {l l₁ m m₁ : List ℕ} {p : Standing} (g : Ready w (length l) size p) (f : Released s l l₁ p.occupied occupied m m₁) where
-  pub released_ready : Ready w (length l₁) size (holding occupied p)
-  released_ready = record {
-    narrow = g.narrow;
-    flagged = g.flagged;
-    fit = omega (arith, f.filtered.few, g.fit);
-    few = g.few;
-    room = omega (arith, f.filtered.long, g.room);
-    early = g.early;
-    small = g.small;
-  }
-
-  pub released_read : {dom : ℕ → ℕ → Bool} {r : ℕ} {l₂ : List ℕ} {q : Standing} → Judged dom w r l₁ (holding occupied p) l₂ q
-      → Read dom w (record { row = r; timestamp = s }) l m p l₂ m₁ q
-  released_read {dom} {r} {l₂} {q} j = record {
-    state =
-        read_is w s l l₁ m m₁ p.occupied occupied p.overflow p.clock p.count g.fit f.filtered f.marks_are dom r (state_at w l₂ m₁ q)
-        (j.state m₁);
+  read_released = record {
+    same = same_trans e j.same;
+    state = rw (← released, ← e.capacity, ← e.table) j.state;
     onward = record {
-      fit = j.onward.fit;
-      few = j.onward.few;
-      ticks = j.onward.ticks;
-      small = j.onward.small;
-      rest = λ i h. j.onward.rest i h ∙ f.filtered.rest i (omega (arith, g.fit));
+      few = omega (arith, j.onward.few, overflow_is);
+      ticks = j.onward.ticks ∙ ap (λ (p : Standing). p.clock + 1) stands;
+      small = omega (arith, j.onward.small, ap (λ (p : Standing). p.count) stands);
+      rest = λ i h. j.onward.rest i (omega (arith, e.capacity, overflow_is)) ∙ f.filtered.rest i (omega (arith, m.fit));
     };
   }

@@ -1,1 +1,4 @@
 pub mod Work
+pub mod Scans
+pub mod Reads
+pub mod Laws

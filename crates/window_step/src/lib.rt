@@ -1,129 +1,18 @@
-// One row of a level table read by the window machine, whose state is in a lent work list. Inside the window engine,
-// and no call open to others: `window_passes` meets what its calls require.
+// One row of a level table read by the window machine, whose state is in lent lists. Inside the window engine, and no
+// call open to others: `window_passes` meets what its calls require.
 #![tactic(auto)]
 
-ghost use Rattle.std.specs.Prelude.{◌≡◌, false, ◌*◌, ◌<◌, ◌≤◌, get_or, length};
-ghost use Rattle.limits.specs.Limits.{max_window};
-ghost use Rattle.pareto.specs.Table.{is_double, compared};
-ghost use Rattle.window_machine.specs.Order.{Rising};
-ghost use Rattle.window_entries.specs.Entries.{entries};
-ghost use Rattle.window_step.specs.Work.{table_dominates, Fronted, Scanned, Ready, Judged, Read};
+mod scanning;
 
-// How many entries, the oldest first, are apart from a row: neither dominates the other. How the next one, if there is
-// one, and the row stand.
-#[derive(Clone, Copy)]
-pub struct Front {
-    pub at: usize,
-    pub relation: u8,
-}
+ghost use Rattle.std.specs.Prelude.{◌≡◌, ◌+◌, ◌≤◌, length};
+ghost use Rattle.limits.specs.Limits.{max_runs, max_window};
 
-// Whether a row is dropped, from which entry on `remove` has to look, and how many compares told so.
-#[derive(Clone, Copy)]
-pub struct Verdict {
-    pub dropped: bool,
-    pub from: usize,
-    pub compares: usize,
-}
-
-// The row of an entry that the work list holds.
-fn entry_row(work: &[u32], at: usize) -> usize
-    requires { (at ≤ max_window) × (2 * at < length work.now) }
-    ensures { result ≡ get_or work.now (2 * at) 0 }
-{
-    work[2 * at] as usize
-}
-
-// How an entry of the window and a row stand; behind the last they are apart.
-fn entry_compared(table: &[u16], work: &[u32], at: usize, occupied: usize, row: u32) -> u8
-    requires { (occupied ≤ max_window) × (2 * occupied ≤ length work.now) }
-    ensures { at < occupied → result ≡ compared table.now (get_or work.now (2 * at) 0) row }
-{
-    if occupied <= at {
-        return pareto::INCOMPARABLE;
-    }
-    pareto::compare(table, entry_row(work, at), row as usize)
-}
-
-// Most entries are apart from a row: a short loop of its own passes them, in a table of one plane.
-fn apart(table: &[u16], work: &[u32], occupied: usize, row: u32) -> Front
-    requires occupied_le_max_window { (occupied ≤ max_window) × (2 * occupied ≤ length work.now) }
-    requires table_value { is_double table.now ≡ false }
-    ensures { Fronted table.now row work.now occupied result }
-{
-    let mut left = occupied;
-    while 0 < left {
-        let at = occupied - left;
-        let lower = pareto::plane_levels(table, entry_row(work, at), row as usize);
-        if lower.first != lower.second {
-            return Front {
-                at,
-                relation: lower.relation,
-            };
-        }
-        left -= 1;
-    }
-    Front {
-        at: occupied,
-        relation: pareto::INCOMPARABLE,
-    }
-}
-
-// The entries that are passed at first: those apart, or none in a table of two planes.
-fn passed_first(table: &[u16], work: &[u32], occupied: usize, row: u32) -> Front
-    requires { (occupied ≤ max_window) × (2 * occupied ≤ length work.now) }
-    ensures { Fronted table.now row work.now occupied result }
-{
-    if pareto::is_double(table) {
-        return Front {
-            at: 0,
-            relation: entry_compared(table, work, 0, occupied, row),
-        };
-    }
-    apart(table, work, occupied, row)
-}
-
-// Compares a row with the window's entries, the oldest that is left first, until one dominates it. Behind the entries
-// that are apart, each compare is kept as a flag for `remove`.
-#[tactic(auto, using(crate::proofs::Scanning::hit_dominates, crate::proofs::Scanning::hit_last))]
-fn scan(table: &[u16], work: &[u32], occupied: usize, row: u32, flags: &mut [u8]) -> Verdict
-    requires { (occupied ≤ max_window) × (2 * occupied ≤ length work.now) × (occupied ≤ length flags.old) }
-    ensures { Scanned (table_dominates table.now) row work.now occupied
-        flags.new result }
-{
-    let front = passed_first(table, work, occupied, row);
-    let from = front.at;
-    let mut at = from;
-    let mut relation = front.relation;
-    let mut dominates = false;
-    while at < occupied {
-        if relation == pareto::FIRST_DOMINATES {
-            return Verdict {
-                dropped: true,
-                from,
-                compares: at + 1,
-            };
-        }
-        dominates = dominates | (relation == pareto::SECOND_DOMINATES);
-        flags[at] = relation;
-        at += 1;
-        relation = entry_compared(table, work, at, occupied, row);
-    }
-    if dominates {
-        return Verdict {
-            dropped: false,
-            from,
-            compares: occupied,
-        };
-    }
-    Verdict {
-        dropped: false,
-        from: occupied,
-        compares: occupied,
-    }
-}
+use pareto::Relation;
+use scanning::{Verdict, Window};
+use window_entries::Entry;
 
 // Where the machine stands, beside its lists: entries in the window, entries set aside, the clock, the compares made.
-#[derive(Clone, Copy)]
+#[derive(Clone, Copy, PartialEq, Eq, Default, Debug)]
 pub struct Standing {
     pub occupied: usize,
     pub overflow: usize,
@@ -131,69 +20,78 @@ pub struct Standing {
     pub count: usize,
 }
 
-// Compares a row with the window, and drops it, enters it or sets it aside.
-fn judge(
-    table: &[u16],
-    w: usize,
-    work: &mut [u32],
-    flags: &mut [u8],
-    p: Standing,
-    row: u32,
-) -> Standing
-    requires { Ready w (length work.old) (length flags.old) p }
-    ensures { Judged (table_dominates table.now) w row work.old p work.new result }
-{
-    let verdict = scan(table, work, p.occupied, row, flags);
-    let clock = p.clock + 1;
-    let count = p.count + verdict.compares;
-    let overflow = p.overflow;
-    if verdict.dropped {
-        return Standing {
-            occupied: p.occupied,
-            overflow,
-            clock,
-            count,
-        };
-    }
-    let occupied = window_entries::remove(flags, work, verdict.from, p.occupied);
-    if occupied < w {
-        window_entries::put_entry(work, occupied, row, clock);
-        return Standing {
-            occupied: occupied + 1,
-            overflow,
-            clock,
-            count,
-        };
-    }
-    window_entries::put_entry(work, w + overflow, row, clock);
-    Standing {
-        occupied,
-        overflow: overflow + 1,
-        clock,
-        count,
-    }
+// The machine on a level table, with a window of up to `capacity` entries. Its lists are lent: the entries of the
+// window and of what waits, the marks, and room for a flag of each entry of the window.
+#[derive(Drop)]
+pub struct Machine<'a> {
+    pub table: &'a [u16],
+    pub capacity: usize,
+    pub work: &'a mut [u32],
+    pub marks: &'a mut [u8],
+    pub flags: &'a mut [Relation],
+    pub standing: Standing,
+    pub ghost narrow: { capacity ≤ max_window },
+    pub ghost flagged: { capacity ≤ length flags.now },
+    pub ghost fit: { standing.occupied ≤ capacity },
 }
 
-pub fn read_row(
-    table: &[u16],
-    w: usize,
-    work: &mut [u32],
-    marks: &mut [u8],
-    flags: &mut [u8],
-    p: Standing,
-    row: u32,
-    timestamp: u32,
-) -> Standing
-    requires { Ready w (length work.old) (length flags.old) p × Rising (entries work.old 0 p.occupied) }
-    ensures { Read (table_dominates table.now) w (record { row = row; timestamp = timestamp })
-        work.old marks.old p work.new marks.new result }
-{
-    let occupied = window_entries::release(work, p.occupied, timestamp, marks);
-    let released = Standing {
-        occupied,
-        overflow: p.overflow,
-        clock: p.clock,
-        count: p.count,
-    };
-    judge(table, w, work, flags, released, row)
+impl Machine<'_> {
+    ghost use Rattle.window_machine.specs.Order.{Rising};
+    ghost use Rattle.window_entries.specs.Entries.{entries, entry_at, entry_of};
+    ghost use Rattle.window_step.specs.Reads.{Ready, Judged, Read};
+
+    // Entry i of those that wait, or were set aside.
+    pub fn waiting(&self, i: usize) -> Entry
+        requires { i ≤ max_runs }
+        ensures { entry_of result ≡ entry_at self.now.work.now (self.now.capacity + i) }
+    {
+        window_entries::entry_at(self.work, self.capacity + i)
+    }
+
+    // Compares a row with the window, and drops it, enters it or sets it aside.
+    fn judge(&mut self, row: u32)
+        requires { Ready self.old }
+        ensures { Judged row self.old self.new }
+    {
+        let work = &mut *self.work;
+        let flags = &mut *self.flags;
+        let occupied = self.standing.occupied;
+        self.standing.clock += 1;
+        let window = Window { work, occupied };
+        let left = match window.scan(self.table, row, flags) {
+            Verdict::Dropped { compares } => {
+                self.standing.count += compares;
+                return;
+            }
+            Verdict::Spares => occupied,
+            Verdict::Removes { from } => window_entries::remove(flags, work, from, occupied),
+        };
+        self.standing.count += occupied;
+        let entry = Entry {
+            row,
+            timestamp: self.standing.clock,
+        };
+        if left < self.capacity {
+            window_entries::put_entry(work, left, entry);
+            self.standing.occupied = left + 1;
+        } else {
+            window_entries::put_entry(work, self.capacity + self.standing.overflow, entry);
+            self.standing.occupied = left;
+            self.standing.overflow += 1;
+        }
+    }
+
+    // Reads an entry: releases those of the window that are older, then judges its row.
+    pub fn read(&mut self, entry: Entry)
+        requires { Ready self.old × Rising (entries self.old.work.now 0 self.old.standing.occupied) }
+        ensures { Read (entry_of entry) self.old self.new }
+    {
+        self.standing.occupied = window_entries::release(
+            self.work,
+            self.standing.occupied,
+            entry.timestamp,
+            self.marks,
+        );
+        self.judge(entry.row);
+    }
 }

@@ -1,5 +1,5 @@
 -- Laws of division rounded up.
-use Rattle.std.specs.Prelude.{◌≡◌, ℕ, zero, suc, ◌+◌, ◌-◌, ◌*◌, ◌/◌, ◌%◌, ◌<◌, ◌≤◌}
+use Rattle.std.specs.Prelude.{◌≡◌, refl, min, ℕ, zero, suc, ◌+◌, ◌-◌, ◌*◌, ◌/◌, ◌%◌, ◌<◌, ◌≤◌}
 use Rattle.std.proofs.Common.{ap, ◌∙◌, arith, div-add-mod', mod-lt, div-lt_iff_lt-mul, suc-mul, mul-suc, zero-mul, le_trans}
 use Rattle.std.proofs.Math.Nat.{div-zero, add-div_right}
 use Rattle.std.proofs.Math.Arith.{digits_div}
@@ -57,3 +57,11 @@ ceil_none s = omega (arith, ceil_bound 0 s)
 
 pub ceil_none_only : (d s : ℕ) → 0 < s → ceil_div d s ≡ 0 → d ≡ 0
 ceil_none_only d s hs h = omega (arith, le_ceil d s 0 hs (omega arith), zero-mul s)
+
+library_by : (d s m : ℕ) → 0 < s → d % s ≡ m → d / s + min 1 m ≡ ceil_div d s
+library_by d s zero hs e = omega (arith, ceil_even d s hs e)
+library_by d s (suc m) hs e = omega (arith, ceil_more d s hs (λ z. omega arith))
+
+-- what the library's division rounded up gives
+pub ceil_library : (d s : ℕ) → 0 < s → d / s + min 1 (d % s) ≡ ceil_div d s
+ceil_library d s hs = library_by d s (d % s) hs refl

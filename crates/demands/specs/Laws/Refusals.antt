@@ -17,7 +17,7 @@ use Rattle.stream_format.specs.Write.{write_refusal}
 use Rattle.stream_format.specs.Laws.Read.{step_keeps, steps_keep}
 use Rattle.stream_format.specs.declared.Class.{Class}
 use Rattle.stream_format.specs.declared.Class.TheVariants.{Unknown, PreferenceRecord, NamedRecord, RunRecord}
-use Rattle.stream_format.specs.declared.ReadAnswer.{ReadAnswer}
+use Rattle.stream_format.specs.ReadAnswer.{ReadAnswer}
 use Rattle.lattice.specs.Engine.{lattice_refusal}
 use Rattle.lattice.specs.Laws.Checked.{marks_among}
 use Rattle.window.specs.Engine.{sizes_refusal, window_refusal}

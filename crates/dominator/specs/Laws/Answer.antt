@@ -1,5 +1,5 @@
 -- The ways of a call.
-use Rattle.std.specs.Prelude.{◌≡◌, ℕ, ◌<◌, ◌≤◌, Bool, ◌&&◌, leb}
+use Rattle.std.specs.Prelude.{Ok, Err, ◌≡◌, ℕ, ◌<◌, ◌≤◌, Bool, ◌&&◌, leb}
 use Rattle.std.proofs.Math.Path.{refl, sym}
 use Rattle.std.proofs.Common.{◌∙◌, arith, le-leb}
 use Rattle.std.proofs.Math.Bool.{true, false}
@@ -9,6 +9,10 @@ use Rattle.laws.specs.Laws.AnyOf.{passing_any}
 use Rattle.laws.specs.Laws.Bools.{both, false_true}
 use Rattle.laws.specs.Laws.Checks.{gives_yes, gives_no, then_first, then_next, then_none}
 use Rattle.laws.specs.Laws.First.{first_is}
+use Rattle.refusal.specs.Refusal.{number}
+use Rattle.refusal.specs.declared.Refusal.{Refusal}
+use Rattle.refusal.specs.declared.Refusal.TheVariants.{NoSuchRow, Shortlisted}
+use Rattle.refusal.specs.Laws.Refusal.{number_some, then_err}
 use Rattle.run_log.specs.Log.{Log, row_count, log_refusal}
 use Rattle.run_log.specs.Laws.Log as runs
 use Rattle.preference.specs.Valid.{list_refusal}
@@ -19,14 +23,13 @@ use Rattle.pareto.specs.Laws.Best.{dominated_by_best}
 use Rattle.pareto.specs.Laws.Competing.{every_competes}
 use Rattle.dominator.specs.First.{best_dominates, first_dominator, RowAsked}
 use Rattle.dominator.specs.Engine.{dominator_refusal, Answered}
-use Rattle.dominator.specs.declared.DominatorAnswer.TheVariants.{Row, Refused}
 
 module _ (l : PreferenceList) (log : Log) (row k : ℕ) (e : k ≡ checked_refusal l log 0) where
-  pub refused : (k ≡ 0 → ⊥) → Answered l log row (Refused k)
+  pub refused : (r : Refusal) → number r ≡ k → Answered l log row (Err r)
   unfolding dominator_refusal Answered
-  refused h = record { refusal = e ∙ sym (then_first (checked_refusal l log 0) _ (λ z. h (e ∙ z))); some = h }
+  refused r h = record { refusal = then_err r (checked_refusal l log 0) _ (h ∙ e); some = number_some r }
 
-  pub no_row : k ≡ 0 → row_count log.values ≤ row → Answered l log row (Refused 12)
+  pub no_row : k ≡ 0 → row_count log.values ≤ row → Answered l log row (Err NoSuchRow)
   unfolding dominator_refusal Answered ◌gives◌
   no_row z h = record {
     refusal =
@@ -51,7 +54,7 @@ module _ (l : PreferenceList) (log : Log) (row k : ℕ) (e : k ≡ checked_refus
 
   -- no best row dominates it, so it is best itself: a row that is not is dominated by a best one
   pub shortlisted : k ≡ 0 → row < row_count log.values → (s : ℕ) → s ≡ first_dominator l log row
-      → row_count log.values ≤ s → Answered l log row (Refused 13)
+      → row_count log.values ≤ s → Answered l log row (Err Shortlisted)
   unfolding Answered first_dominator
   shortlisted z h s f n = record {
     refusal = sym (refusal_is z h ∙ gives_yes (is_best l log row) 13 (itself (is_best l log row) refl));
@@ -80,7 +83,7 @@ module _ (l : PreferenceList) (log : Log) (row k : ℕ) (e : k ≡ checked_refus
       and_false false = refl
 
   pub beaten : k ≡ 0 → row < row_count log.values → (s : ℕ) → s ≡ first_dominator l log row
-      → s < row_count log.values → Answered l log row (Row s)
+      → s < row_count log.values → Answered l log row (Ok s)
   unfolding Answered first_dominator
   beaten z h s f n =
       let d =

@@ -1,6 +1,8 @@
 -- The search over the competing rows in a log's level table finds the first row of the shortlist that dominates the
 -- asked one.
-use Rattle.std.specs.Prelude.{◌≡◌, Bool, not, ◌&&◌, List, [], ◌∷◌, ◌++◌, ltb, length, get_or, drop}
+use Rattle.std.specs.List.{find}
+use Rattle.std.specs.Option.{unwrap_or}
+use Rattle.std.specs.Prelude.{◌≡◌, Some, Bool, not, ◌&&◌, List, [], ◌∷◌, ◌++◌, ltb, length, get_or, drop}
 use Rattle.std.proofs.Math.Path.{refl, ap}
 use Rattle.std.proofs.Common.{sym, ◌∙◌, add-one, arith, drop_of_length-le, lt-ltb, le-ltb, ltb-true, ltb-false}
 use Prim.Native.Nat.{ℕ, zero, suc, ◌+◌, ◌<◌, ◌≤◌}
@@ -16,7 +18,7 @@ use Rattle.preference.specs.declared.PreferenceList.{PreferenceList}
 use Rattle.pareto.specs.Best.{competes, competing, row_dominates, is_best}
 use Rattle.level_table.specs.Table.{table_of}
 use Rattle.pareto.specs.Laws.Table.{compared_dominates}
-use Rattle.dominator.specs.First.{best_dominates, first_dominator, RowAsked, beats, best_beats, first_of}
+use Rattle.dominator.specs.First.{best_dominates, first_dominator, dominator_or, RowAsked, beats, best_beats, first_of}
 
 -- ---- turns of a loop over a list
 
@@ -45,6 +47,17 @@ module _ (p : ℕ → Bool) (xs : List ℕ) (i : ℕ) where
   pub first_end : (none : ℕ) → length xs ≤ i → first_of p (drop i xs) none ≡ none
   unfolding first_of
   first_end none h = rw (drop_of_length-le xs {i = i} h)
+
+-- what the library's search finds, or none
+pub first_found : (p : ℕ → Bool) (xs : List ℕ) (none : ℕ) → unwrap_or (find p xs) none ≡ first_of p xs none
+unfolding first_of
+first_found p [] none = refl
+first_found p (x ∷ xs) none = go (p x) (first_found p xs none)
+  where
+    go : (b : Bool) → unwrap_or (find p xs) none ≡ first_of p xs none
+        → unwrap_or (cond b (Some x) (find p xs)) none ≡ cond b x (first_of p xs none)
+    go true e = refl
+    go false e = e
 
 -- ---- a search in the list of the numbers that pass is a search that counts up
 
@@ -130,3 +143,30 @@ module _ (l : PreferenceList) (log : Log) (row : ℕ) (a : RowAsked l log row) w
   first_in_table =
       first_counted (best_beats (table_of l log.values) (competing log) row) (competes log) (row_count log.values)
       ∙ first_cong _ (best_dominates l log row) (row_count log.values) best_beats_lem
+
+  pub found_in_table : (none : ℕ)
+      → first_of (best_beats (table_of l log.values) (competing log) row) (competing log) none
+      ≡ dominator_or l log row none
+  unfolding first_dominator competing
+  found_in_table none =
+      first_passing (best_beats (table_of l log.values) (competing log) row) (competes log) (row_count log.values) none
+      ∙ ap (λ k. cond (ltb k (row_count log.values)) k none)
+      (first_cong _ (best_dominates l log row) (row_count log.values) best_beats_lem)
+
+-- ---- what is found, whatever stands for none
+
+some_by : (k best : ℕ) (t : Bool) → best ≡ cond t k 0 → best ≡ cond t k 1 → (t ≡ true) × (best ≡ k)
+some_by k best true e f = (refl, e)
+some_by k best false e f = let z : ◌≡◌ {A = ℕ} 0 1 = sym e ∙ f in absurd (omega arith)
+
+pub some_found : (n k best : ℕ) → ((none : ℕ) → best ≡ cond (ltb k n) k none) → (k < n) × (best ≡ k)
+some_found n k best h =
+    let s = some_by k best (ltb k n) (h 0) (h 1) in
+    (ltb-true k n s.0, s.1)
+
+none_by : (n k : ℕ) (t : Bool) → ltb k n ≡ t → n ≡ cond t k n → n ≤ k
+none_by n k true e f = let q = ltb-true k n e in omega arith
+none_by n k false e f = ltb-false k n e
+
+pub none_found : (n k : ℕ) → ((none : ℕ) → none ≡ cond (ltb k n) k none) → n ≤ k
+none_found n k h = none_by n k (ltb k n) refl (h n)

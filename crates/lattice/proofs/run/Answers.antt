@@ -1,36 +1,59 @@
-use mathlib.Core.Path.{◌≡◌, sym, ap, ◌∙◌}
-use lib.ListN.{length}
-use Rattle.laws.specs.Laws.Checks.{then_first}
-use Rattle.run_log.specs.Log.{Log, log_of, marks_refusal}
-use Prim.Native.Nat.{ℕ}
-use Rattle.preference.specs.declared.PreferenceList.{PreferenceList}
+use Rattle.std.proofs.Common.{◌≡◌, sym, rules, length}
+use Rattle.run_log.specs.Log.{log_of, marks_refusal}
 use Rattle.pareto.specs.Checked.{checked_refusal}
-use Rattle.lattice.specs.Engine.{lattice_refusal}
-use Rattle.lattice.specs.Laws.Checked.{before_11}
-use Rattle.lattice.specs.Laws.Ends.{refused_by}
+use Rattle.pareto.specs.Laws.Checked.{refused_first, refused_more, by_rows}
+use Rattle.lattice.specs.Laws.Ends.{exit, too_many, too_short}
+use Rattle.lattice.specs.Laws.Ends as ends
+use Rattle.lattice.specs.Laws.Settled.{told, settled}
+use Rattle.lattice.proofs.run.Goals.{In_ok-check_rows}
 use Rattle.lattice.proofs.run.Goals as goal
 
-refusal_is : (l : PreferenceList) (log : Log) (marks short k : ℕ) → short ≡ marks_refusal log.values marks
-    → k ≡ checked_refusal l log short
-    → k ≡ checked_refusal l log (marks_refusal log.values marks)
-refusal_is l log marks short k e f = f ∙ ap (checked_refusal l log) e
+-- the checks up to 8 have passed
+checked : (c : In_ok-check_rows)
+    → checked_refusal c.args.list (log_of c.args.log.now) (marks_refusal c.args.log.now (length c.args.marks.now)) ≡ 0
+checked c = sym (by_rows _ _ _ 0 c.in_ok-check.ensures c.in_ok-check_marks.ensures c.in_ok-check_rows.ensures)
 
-pub returns-then-k-ne0 : goal.returns-then-k-ne0
-unfolding lattice_refusal
-returns-then-k-ne0 c =
-    let a = c.args in
-    let is =
-    refusal_is c.args.list (log_of c.args.log.now) (length c.args.marks.now) _ _ c.marks_refusal-short.ensures c.checked_refusal-k.ensures in
-    let e =
-    refused_by a.list (log_of a.log.now) a.marks.now a.nodes.now a.budget c.checked_refusal-k.result
-    (rw (← is) (then_first c.checked_refusal-k.result _ c.if-k-ne0.true)) c.if-k-ne0.true
-    (λ e. before_11 a.list (log_of a.log.now) (length a.marks.now) (sym is ∙ e)) in
+pub returns-in_err-check : goal.returns-in_err-check
+returns-in_err-check c =
+    let e = exit _ _ _ _ _ _ _ c.from_residual.ensures.1 (ends.checks_refuse _ _ _ _ _ _ (refused_first _ _ _ _ c.in_err-check.ensures)) in
     record { leaves = e.0; nodes_after = e.1 }
 
-pub engine-requires : goal.engine-requires
-engine-requires c =
-    sym (refusal_is c.args.list (log_of c.args.log.now) (length c.args.marks.now) _ _ c.marks_refusal-short.ensures c.checked_refusal-k.ensures)
-    ∙ c.if-k-ne0.false
+pub returns-in_err-check_marks : goal.returns-in_err-check_marks
+returns-in_err-check_marks c =
+    let e =
+    exit _ _ _ _ _ _ _ c.from_residual-in_err-check_marks.ensures.1
+    (ends.checks_refuse _ _ _ _ _ _ (refused_more _ _ _ _ c.in_ok-check.ensures c.in_err-check_marks.ensures)) in
+    record { leaves = e.0; nodes_after = e.1 }
+
+pub returns-in_err-check_rows : goal.returns-in_err-check_rows
+returns-in_err-check_rows c =
+    let e =
+    exit _ _ _ _ _ _ _ c.from_residual-in_err-check_rows.ensures.1
+    (ends.checks_refuse _ _ _ _ _ _ (by_rows _ _ _ _ c.in_ok-check.ensures c.in_ok-check_marks.ensures c.in_err-check_rows.ensures)) in
+    record { leaves = e.0; nodes_after = e.1 }
+
+pub returns-in_err-weights : goal.returns-in_err-weights
+returns-in_err-weights c =
+    let e =
+    exit _ _ _ _ _ _ _ c.from_residual-in_err-weights.ensures.1
+    (too_many _ _ _ _ _ (checked (goal.at.returns-in_err-weights c).In_ok-check_rows) _ c.in_err-weights.ensures.refusal) in
+    record { leaves = e.0; nodes_after = e.1 }
+
+pub returns-then-nodes-count : goal.returns-then-nodes-count
+returns-then-nodes-count c =
+    let w = c.in_ok-weights.ensures.weighed in
+    let e =
+    too_short _ _ _ _ _ (checked (goal.at.returns-then-nodes-count c).In_ok-check_rows) w.1.few
+    (rw w.0 at c.if-nodes-count.true) in
+    record { leaves = e.0; nodes_after = e.1 }
 
 pub returns : goal.returns
-returns c = c.engine.ensures
+returns c =
+    let w = c.in_ok-weights.ensures.weighed in
+    let n = c.row_count-rows.ensures in
+    let t : c.map_err.result ≡ told c.walk_rows.result = search rules in
+    let e =
+    settled c.args.list (log_of c.args.log.now) c.args.marks.now c.args.nodes.now c.args.budget
+    (checked (goal.at.returns c).In_ok-check_rows) w.1.few (rw w.0 at c.if-nodes-count.false) _ _ _
+    (rw n at c.walk_rows.ensures) in
+    record { leaves = rw (t, n) e.0; nodes_after = rw w.0 e.1 }

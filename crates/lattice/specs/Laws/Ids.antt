@@ -1,7 +1,7 @@
 -- The number of a row's node is the sum of its levels in the level table, each times its weight.
 use Rattle.std.specs.Prelude.{◌≡◌, refl, ℕ, zero, suc, ◌+◌, ◌-◌, ◌*◌, ◌<◌, ◌≤◌, Bool, true, List, [], ◌∷◌, get_or, take, drop}
 use Rattle.std.proofs.Math.Path.{sym}
-use Rattle.std.proofs.Common.{ap, ap₂, ◌∙◌, zero-add, add-zero, le_refl, eq-or-lt_of_le, le_of_suc-le-suc, lt_of_lt_of_le, ⊎_elim, drop_of_length-le, get_or-drop, lt-ltb, le-ltb}
+use Rattle.std.proofs.Common.{ap, ap₂, ◌∙◌, zero-add, add-zero, add-one, le_refl, eq-or-lt_of_le, le_of_suc-le-suc, lt_of_lt_of_le, ⊎_elim, drop_of_length-le, get_or-drop, lt-ltb, le-ltb}
 use native.Mathlib.Omega.{arith}
 use Rattle.std.proofs.Math.Bool.{false}
 use Rattle.std.proofs.Math.Arith.{le-zero}
@@ -26,6 +26,16 @@ use Rattle.lattice.specs.Ids.{Weighed, levels_node, row_node, row_nodes, weighed
 use Rattle.lattice.specs.Laws.Walked.{tops_few, narrow_tops, wide_tops, row_is}
 use Rattle.lattice.specs.Laws.Rows.{row_within}
 
+pub weighed_none : (weights table : List ℕ) (at : ℕ) → weighed weights table at 0 ≡ 0
+unfolding weighed
+weighed_none weights table at = refl
+
+-- one level more
+pub weighed_more : (weights table : List ℕ) (at k : ℕ)
+    → weighed weights table at (k + 1) ≡ weighed weights table at k + get_or table (at + k) 0 * get_or weights k 0
+unfolding weighed
+weighed_more weights table at k = rw (add-one k)
+
 -- a sum does not fall by going on
 pub weighed_grows : (weights table : List ℕ) (at k n : ℕ) → k ≤ n
     → weighed weights table at k ≤ weighed weights table at n
@@ -34,6 +44,16 @@ weighed_grows weights table at k zero h = rw (le-zero h) (le_refl _)
 weighed_grows weights table at k (suc n) h =
     ⊎_elim (λ e. rw e (le_refl _))
     (λ (l : k < suc n). omega (arith, weighed_grows weights table at k n (le_of_suc-le-suc l))) (eq-or-lt_of_le h)
+
+-- a level more keeps a sum within the whole
+pub weighed_within : (weights table : List ℕ) (at k : ℕ) → k < length weights
+    → weighed weights table at k + get_or table (at + k) 0 * get_or weights k 0
+    ≤ weighed weights table at (length weights)
+weighed_within weights table at k h =
+    let g = weighed_grows weights table at (k + 1) (length weights) (omega arith) in
+    omega (arith, weighed_more weights table at k)
+
+pub ruleset summing = (weighed_none, weighed_more, weighed_within)
 
 -- the sum so far and the number of the levels from n on are the vector's number
 total : (tops v table : List ℕ) (at : ℕ) → Within tops v

@@ -1,18 +1,12 @@
-use mathlib.Core.Path.{◌≡◌, refl, sym, ◌∙◌}
-use mathlib.Core.Bool.{Bool, true, false, cond}
-use mathlib.Core.List.{List, [], ◌++◌, append-nil}
-use Prim.Native.Nat.{ℕ, ◌+◌, ◌-◌, ◌<◌, ◌≤◌}
-use native.Mathlib.Nat.{add-sub_cancel_left}
-use native.Mathlib.Omega.{arith}
-use lib.Arith.{lt_of_le-ne}
-use lib.Dec.{ltb}
-use borrow.Author.Tests.{lt-ltb, le-ltb, not-true, not-false}
-use lib.ListN.{length, take, drop, length-append, length-drop}
-use lib.Seq.{length-take-le}
+use Rattle.std.proofs.Common.{◌≡◌, ℕ, ◌+◌, ◌-◌, ◌<◌, ◌≤◌, Bool, true, false, cond, List, [], ◌++◌, Result, Ok, Err, refl, sym, ◌∙◌, append-nil, arith, ltb, lt-ltb, le-ltb, length, take, drop, length-append}
+use Rattle.std.proofs.Math.Nat.{add-sub_cancel_left}
+use Rattle.std.specs.Result.{is_ok}
+use Rattle.std.proofs.lemmas.Result.{err_from_is_err_and}
 use Rattle.lattice_nodes.specs.Steps.{stretch, first_reached, row_edges}
-use Rattle.lattice_nodes.specs.Laws.FirstReached.{first_low}
-use Rattle.lattice_stretch.specs.Progress.{Crosses}
-use Rattle.lattice_stretch.specs.Laws.Crossing.{none_crossed, kept, paid_for, cut_off, then_more}
+use Rattle.lattice_stretch.specs.declared.Budget.{Budget}
+use Rattle.lattice_stretch.specs.declared.OverBudget.{OverBudget}
+use Rattle.lattice_stretch.specs.Crossed.{Crosses}
+use Rattle.lattice_stretch.specs.Laws.Crossing.{none_crossed, kept, cut_off, then_more}
 use Rattle.lattice_crossing.proofs.cross_row.Goals as goal
 
 module _ (w a : ℕ) (nodes : List ℕ) (f : ℕ) (e : f ≡ first_reached (take (a + w - a) (drop a nodes))) where
@@ -38,75 +32,30 @@ module _ (w a : ℕ) (nodes : List ℕ) (f : ℕ) (e : f ≡ first_reached (take
       go true = refl
       go false = refl
 
-  module _ (made budget : ℕ) (after : List ℕ) (ok : Bool) (n : ℕ) (r : Crosses along made budget nodes after ok n) where
-    stops : ok ≡ false → Crosses (row_edges w nodes a) made budget nodes after ok n
-    stops h = cut_off _ _ _ _ _ _ _ r h _ after (rw (edges_are, length-append along) (omega arith))
+  stops : (budget : Budget) (after : List ℕ) (r : Result Budget OverBudget) → Crosses along budget nodes after r → is_ok r ≡ false → (y : OverBudget)
+      → Crosses (row_edges w nodes a) budget nodes after (Err y)
+  stops budget after r c t y = cut_off _ _ _ _ _ c t y _ after (rw (edges_are, length-append along) (omega arith))
 
+  module _ (budget m : Budget) (after : List ℕ) (c : Crosses along budget nodes after (Ok m)) where
     -- it is the last row
-    last : ok ≡ true → length after ≤ a + w → Crosses (row_edges w nodes a) made budget nodes after ok n
-    last t h = rw (edges_are, le-ltb (a + w) (length nodes) (omega (arith, kept _ _ _ _ _ _ _ r t)), append-nil along) r
+    last : length after ≤ a + w → Crosses (row_edges w nodes a) budget nodes after (Ok m)
+    last h = rw (edges_are, le-ltb (a + w) (length nodes) (omega (arith, kept _ _ _ _ _ c refl)), append-nil along) c
 
-    next : ok ≡ true → a + w < length after → (after' : List ℕ) (ok' : Bool) (n' : ℕ) → Crosses onward n budget after after' ok' n'
-        → Crosses (row_edges w nodes a) made budget nodes after' ok' n'
-    next t h after' ok' n' q =
-        rw (edges_are, lt-ltb (a + w) (length nodes) (omega (arith, kept _ _ _ _ _ _ _ r t))) (then_more _ _ _ _ _ _ _ r t onward after' ok' n' q)
-
-low : (w a : ℕ) (nodes : List ℕ) (f : ℕ) → f ≡ first_reached (take (a + w - a) (drop a nodes)) → a + w ≤ length nodes → f ≤ w
-low w a nodes f e h =
-    let size : length (take (a + w - a) (drop a nodes)) ≡ w =
-    length-take-le (a + w - a) (drop a nodes) (omega (arith, length-drop a nodes)) ∙ add-sub_cancel_left a w in
-    omega (arith, first_low (take (a + w - a) (drop a nodes)))
-
-below : (w a : ℕ) (nodes : List ℕ) (f : ℕ) → f ≡ first_reached (take (a + w - a) (drop a nodes)) → a + w ≤ length nodes
-    → (f ≡ w → ⊥) → f < w
-below w a nodes f e h ne = lt_of_le-ne (low w a nodes f e h) ne
+    next : a + w < length after → (after' : List ℕ) (r : Result Budget OverBudget) → Crosses onward m after after' r
+        → Crosses (row_edges w nodes a) budget nodes after' r
+    next h after' r d =
+        rw (edges_are, lt-ltb (a + w) (length nodes) (omega (arith, kept _ _ _ _ _ c refl))) (then_more _ _ _ _ _ c onward after' r d)
 
 pub returns-then-f-w : goal.returns-then-f-w
-returns-then-f-w c = rw (none _ _ _ _ c.first_reached-f.ensures c.if-f-w.true) (none_crossed _ _ _ c.requires.made_le_budget)
+returns-then-f-w c = rw (none _ _ _ _ c.first_reached-f.ensures c.if-f-w.true) (none_crossed _ _)
 
-pub overflow_add-from : goal.overflow_add-from
-overflow_add-from c = omega (arith, below _ _ _ _ c.first_reached-f.ensures c.requires.block_at.ends c.if-f-w.false)
-
-pub overflow_sub-ahead : goal.overflow_sub-ahead
-overflow_sub-ahead c = low _ _ _ _ c.first_reached-f.ensures c.requires.block_at.ends
-
-pub overflow_add-from-2 : goal.overflow_add-from-2
-overflow_add-from-2 c = omega (arith, below _ _ _ _ c.first_reached-f.ensures c.requires.block_at.ends c.if-f-w.false)
-
-pub overflow_sub-ahead-2 : goal.overflow_sub-ahead-2
-overflow_sub-ahead-2 c = omega (arith, below _ _ _ _ c.first_reached-f.ensures c.requires.block_at.ends c.if-f-w.false)
-
-pub cross_stretch-crossed-requires : goal.cross_stretch-crossed-requires
-cross_stretch-crossed-requires c =
-    record {
-      d_in_bounds = omega (arith, below _ _ _ _ c.first_reached-f.ensures c.requires.block_at.ends c.if-f-w.false, c.requires.block_at.ends);
-      made_le_budget = c.requires.made_le_budget;
-    }
-
-pub returns-then-not-crossed : goal.returns-then-not-crossed
-returns-then-not-crossed c =
-    stops _ _ _ _ c.first_reached-f.ensures _ _ _ _ _ c.cross_stretch-crossed.ensures
-    (not-true c.cross_stretch-crossed.result.ok c.if-not-crossed.true)
+pub returns-in_err-along : goal.returns-in_err-along
+returns-in_err-along c =
+    let p = err_from_is_err_and c.from_residual.result c.from_residual.ensures.1 in
+    rw p.1 (stops _ _ _ _ c.first_reached-f.ensures _ _ _ c.in_err-along.ensures refl _)
 
 pub returns-then-nodes-end : goal.returns-then-nodes-end
-returns-then-nodes-end c =
-    last _ _ _ _ c.first_reached-f.ensures _ _ _ _ _ c.cross_stretch-crossed.ensures
-    (not-false c.cross_stretch-crossed.result.ok c.if-not-crossed.false) c.if-nodes-end.true
-
-pub overflow_add-from-3 : goal.overflow_add-from-3
-overflow_add-from-3 c = omega (arith, below _ _ _ _ c.first_reached-f.ensures c.requires.block_at.ends c.if-f-w.false)
-
-pub cross_stretch-requires : goal.cross_stretch-requires
-cross_stretch-requires c =
-    let ok = not-false c.cross_stretch-crossed.result.ok c.if-not-crossed.false in
-    let size = kept _ _ _ _ _ _ _ c.cross_stretch-crossed.ensures ok in
-    let under = below _ _ _ _ c.first_reached-f.ensures c.requires.block_at.ends c.if-f-w.false in
-    record {
-      d_in_bounds = omega (arith, under, c.requires.block_at.next (omega (arith, c.if-nodes-end.false, size)), size);
-      made_le_budget = paid_for _ _ _ _ _ _ _ c.cross_stretch-crossed.ensures ok;
-    }
+returns-then-nodes-end c = last _ _ _ _ c.first_reached-f.ensures _ _ _ c.in_ok-along.ensures c.if-nodes-end.true
 
 pub returns : goal.returns
-returns c =
-    next _ _ _ _ c.first_reached-f.ensures _ _ _ _ _ c.cross_stretch-crossed.ensures
-    (not-false c.cross_stretch-crossed.result.ok c.if-not-crossed.false) c.if-nodes-end.false _ _ _ c.cross_stretch.ensures
+returns c = next _ _ _ _ c.first_reached-f.ensures _ _ _ c.in_ok-along.ensures c.if-nodes-end.false _ _ c.cross_stretch-2.ensures

@@ -1,16 +1,7 @@
-use mathlib.Core.List.{List}
-use Prim.Native.Nat.{ℕ, ◌-◌}
-use lib.ListN.{length, get_or}
+use Rattle.std.proofs.Common.{◌≡◌, ℕ, ◌<◌, get_or}
 use Rattle.lattice_nodes.specs.Steps.{byte_mark}
-use Rattle.laws.specs.Laws.Written.{Written}
 use Rattle.lattice_marks.proofs.write_marks.Given as goal
 
--- the mark of row r
-abbrev pub mark : List ℕ → List ℕ → ℕ → ℕ
-mark ids nodes r = byte_mark (get_or nodes (get_or ids r 0) 0)
-
+-- the marks of the rows so far are written
 abbrev pub invariant-loop-r : goal.invariant-loop-r
-invariant-loop-r l = Written (mark l.ids l.nodes) (length l.ids) l.marks l.r
-
-abbrev pub decreases-loop-r : goal.decreases-loop-r
-decreases-loop-r l = length l.ids - l.r
+invariant-loop-r l = (k : ℕ) → k < l.r → get_or l.marks k 0 ≡ byte_mark (get_or l.nodes (get_or l.ids k 0) 0)

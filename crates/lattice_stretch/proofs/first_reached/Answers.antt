@@ -1,12 +1,9 @@
-use mathlib.Core.Path.{sym, ◌∙◌}
-use Rattle.lattice_stretch.proofs.Reached.{none}
+use Rattle.std.proofs.Common.{rules, tests, arith}
+use Rattle.lattice_stretch.proofs.Reached.{first_is}
 use Rattle.lattice_stretch.proofs.first_reached.Goals as goal
 
-pub unreached_front-f-requires : goal.unreached_front-f-requires
-unreached_front-f-requires c = tt
-
-pub loop-f-init : goal.loop-f-init
-loop-f-init c = c.unreached_front-f.ensures
-
 pub returns : goal.returns
-returns c = sym (none _ _ c.loop-f-test.false) ∙ c.loop-f.invariant.1
+returns c =
+    first_is c.args.nodes.now c.first_place.result c.first_place.ensures.within
+    (λ k h. let no = c.first_place.ensures.before k 0 (omega arith) h in search (rules, tests))
+    (λ h e. let yes = c.first_place.ensures.there h 0 in search (rules, tests))

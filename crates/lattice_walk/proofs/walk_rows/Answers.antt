@@ -1,12 +1,8 @@
-use Prim.Native.Nat.{ℕ}
-use native.Mathlib.Nat.{div-mul-le_self}
-use native.Mathlib.Omega.{arith}
-use borrow.Author.Tests.{not-true, not-false}
-use mathlib.Core.List.{List}
-use lib.ListN.{length, get_or}
+use Rattle.std.proofs.Common.{ℕ, List, refl, length}
+use Rattle.std.proofs.lemmas.Result.{err_from_is_err_and}
 use Rattle.lattice_nodes.specs.Laws.Blocks.{First}
 use Rattle.lattice_walk.specs.Blocks.{Small, Rows}
-use Rattle.lattice_walk.proofs.Onward.{parts, part_some, weight_some, begin, finish, ends, next_fits, row_stops, row_on}
+use Rattle.lattice_walk.proofs.Onward.{parts, part_some, weight_some, begin, finish, next_fits, row_stops, row_on}
 use Rattle.lattice_walk.proofs.walk_rows.Goals as goal
 
 parts_of : (ws nodes : List ℕ) (f : ℕ) → Small ws (length nodes) → Rows ws nodes f → First ws (length nodes)
@@ -15,49 +11,32 @@ parts_of ws nodes f g r = parts ws nodes f g r.later r.reached
 pub bounds-weights-0 : goal.bounds-weights-0
 bounds-weights-0 c = part_some _ _ (parts_of _ _ _ c.requires.small c.requires.rows)
 
-pub nonzero_div-a : goal.nonzero_div-a
-nonzero_div-a c = weight_some _ _ (parts_of _ _ _ c.requires.small c.requires.rows)
+pub overflow_step-row : goal.overflow_step-row
+overflow_step-row c = weight_some _ _ (parts_of _ _ _ c.requires.small c.requires.rows)
 
-pub overflow_mul-a : goal.overflow_mul-a
-overflow_mul-a c = omega (arith, c.requires.rows.reached, div-mul-le_self c.args.f (get_or c.args.weights.now 0 0))
+pub nonzero_div-row-end : goal.nonzero_div-row-end
+nonzero_div-row-end c = weight_some _ _ (parts_of _ _ _ c.requires.small c.requires.rows)
 
-pub loop-a-init : goal.loop-a-init
-loop-a-init c = begin _ _ _ _ (parts_of _ _ _ c.requires.small c.requires.rows) _ c.requires.rows.first c.requires.made_le_budget
+pub loop-row-init : goal.loop-row-init
+loop-row-init c = begin _ _ _ (parts_of _ _ _ c.requires.small c.requires.rows) _ c.requires.rows.first
 
-pub cross_row-crossed-requires : goal.cross_row-crossed-requires
-cross_row-crossed-requires c =
-    let p = parts_of _ _ _ c.requires.small c.requires.rows in
-    record {
-      block_at =
-          next_fits _ c.args.made c.args.budget _ p _ _ _ c.loop-a.invariant c.loop-a-test.true c.requires.small.nodes _
-          c.loop-a.invariant.size;
-      made_le_budget = c.loop-a.invariant.paid;
-    }
+pub cross_row-requires : goal.cross_row-requires
+cross_row-requires c =
+    next_fits _ c.args.budget _ (parts_of _ _ _ c.requires.small c.requires.rows) _ c.loop-row-test.true c.requires.small.nodes _ c.loop-row.auto.nodes
 
-pub returns-then-not-crossed : goal.returns-then-not-crossed
-returns-then-not-crossed c =
-    let p = parts_of _ _ _ c.requires.small c.requires.rows in
-    row_stops _ _ _ _ p _ _ _ c.loop-a.invariant c.loop-a-test.true c.requires.rows.rows _ _ _ c.cross_row-crossed.ensures
-    (not-true c.cross_row-crossed.result.ok c.if-not-crossed.true)
+pub returns-in_err-budget : goal.returns-in_err-budget
+returns-in_err-budget c =
+    let p = err_from_is_err_and c.from_residual.result c.from_residual.ensures.1 in
+    rw p.1
+    (row_stops _ _ _ (parts_of _ _ _ c.requires.small c.requires.rows) _ c.loop-row-test.true _ _ c.loop-row.auto.nodes c.loop-row.invariant
+    c.requires.rows.rows _ _ c.in_err-budget.ensures refl _)
 
-pub overflow_add-a : goal.overflow_add-a
-overflow_add-a c =
-    let p = parts_of _ _ _ c.requires.small c.requires.rows in
-    omega (arith, ends _ c.args.made c.args.budget _ p _ _ _ c.loop-a.invariant c.loop-a-test.true)
-
-pub loop-a-smaller : goal.loop-a-smaller
-loop-a-smaller c =
-    let p = parts_of _ _ _ c.requires.small c.requires.rows in
-    omega (arith, ends _ c.args.made c.args.budget _ p _ _ _ c.loop-a.invariant c.loop-a-test.true, weight_some _ _ p)
-
-pub loop-a-preserved : goal.loop-a-preserved
-loop-a-preserved c =
-    let p = parts_of _ _ _ c.requires.small c.requires.rows in
-    row_on _ _ _ _ p _ _ _ c.loop-a.invariant c.loop-a-test.true c.requires.rows.rows _ _ _ c.cross_row-crossed.ensures
-    (not-false c.cross_row-crossed.result.ok c.if-not-crossed.false)
-
-pub shape_of-nodes : goal.shape_of-nodes
-shape_of-nodes c = c.loop-a.invariant.size
+pub loop-row-preserved : goal.loop-row-preserved
+loop-row-preserved c =
+    row_on _ _ _ (parts_of _ _ _ c.requires.small c.requires.rows) _ c.loop-row-test.true _ _ c.loop-row.auto.nodes c.loop-row.invariant
+    c.requires.rows.rows _ _ c.in_ok-budget.ensures
 
 pub returns : goal.returns
-returns c = finish _ _ _ _ (parts_of _ _ _ c.requires.small c.requires.rows) _ _ _ c.loop-a.invariant c.loop-a-test.false
+returns c =
+    finish _ _ _ (parts_of _ _ _ c.requires.small c.requires.rows) _ _ _ _ c.requires.rows.reached c.loop-row.auto.row-end c.loop-row-test.false
+    c.loop-row.invariant

@@ -1,10 +1,8 @@
-use Prim.Native.Nat.{◌-◌}
-use lib.ListN.{length}
-use Rattle.lattice_walk.proofs.Onward.{Far}
+use Rattle.std.proofs.Common.{◌*◌, Ok}
+use Rattle.lattice_nodes.specs.Steps.{trail}
+use Rattle.lattice_stretch.specs.Crossed.{Crosses}
 use Rattle.lattice_walk.proofs.walk_rows.Given as goal
 
-abbrev pub invariant-loop-a : goal.invariant-loop-a
-invariant-loop-a l = Far l.weights l.weight l.made l.budget l.initial.nodes l.nodes l.a l.count
-
-abbrev pub decreases-loop-a : goal.decreases-loop-a
-decreases-loop-a l = length l.initial.nodes - l.a
+-- the rows so far are walked
+abbrev pub invariant-loop-row : goal.invariant-loop-row
+invariant-loop-row l = Crosses (trail l.weights l.initial.nodes (l.row * l.weight)) l.initial.budget l.initial.nodes l.nodes (Ok l.budget)

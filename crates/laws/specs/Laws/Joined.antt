@@ -2,7 +2,7 @@
 use Rattle.std.specs.Prelude.{◌≡◌, Bool, true, false, cond, get_or}
 use Rattle.std.proofs.Math.Path.{refl}
 use Rattle.std.proofs.Common.{ap, ◌∙◌, add-one, not-suc-le-zero, le_refl, eq-or-lt_of_le, le_of_suc-le-suc, get_or-append-add}
-use Prim.Native.Nat.{ℕ, zero, suc, ◌+◌, ◌-◌, ◌<◌, ◌≤◌, min}
+use Prim.Native.Nat.{ℕ, zero, suc, ◌+◌, ◌-◌, ◌*◌, ◌<◌, ◌≤◌, min}
 use native.Mathlib.Omega.{arith}
 use mathlib.Core.List.{List, [], ◌∷◌, ◌++◌}
 use Rattle.std.proofs.Math.Logic.{⊎_elim}
@@ -31,6 +31,13 @@ joined_length f g (suc n) h =
 pub joined_longer : (f : ℕ → List ℕ) (n : ℕ) → length (joined f (n + 1)) ≡ length (joined f n) + length (f n)
 unfolding joined
 joined_longer f n = rw (add-one n) (length-append (joined f n) (f n))
+
+-- n lists of at most b
+pub joined_short : (f : ℕ → List ℕ) (b n : ℕ) → ((i : ℕ) → i < n → length (f i) ≤ b) → length (joined f n) ≤ b * n
+unfolding joined
+joined_short f b zero h = omega arith
+joined_short f b (suc n) h =
+    omega (arith, length-append (joined f n) (f n), joined_short f b n (λ i k. h i (omega arith)), h n (omega arith))
 
 -- ---- which list has element k
 

@@ -1,39 +1,41 @@
-use mathlib.Core.Path.{◌≡◌, sym, ◌∙◌}
-use mathlib.Core.Bool.{true}
-use mir.Val.{to_z, of_z}
-use mir.Syntax.{w32}
-use borrow.Author.Tests.{lt-ltb, le-ltb}
-use borrow.Author.Rules.{rules}
-use native.Mathlib.Omega.{arith}
+use Rattle.std.specs.Prelude.{◌≡◌, true, false, ℕ, ◌<◌, ◌≤◌, List, ℤ, take, get_or, pos, length}
+use Rattle.std.proofs.Common.{sym, arith, lt-ltb, le-ltb}
+use Rattle.std.proofs.lemmas.List.{get_or-take, length-take-le}
 use Rattle.laws.specs.First.{first_at}
-use Rattle.laws.specs.Laws.First.{search_hit, search_on}
+use Rattle.scan.specs.Laws.{first_found}
+use Rattle.arith.specs.Gap.{eq_z}
 use Rattle.arith.specs.Laws.Local.{num}
 use Rattle.preference.specs.Names.{is_value}
 use Rattle.layers.proofs.layer_among.Goals as goal
 
-pub loop-k-init : goal.loop-k-init
-loop-k-init c = c.passed_over-k.ensures
+-- what the search among the first n values tells, said of all of them
+found : (values : List ℤ) (v w : ℤ) (n k : ℕ) → w ≡ v → n ≤ length values → k ≤ n
+    → ((i : ℕ) → i < k → false ≡ eq_z (get_or (take n values) i (pos 0)) w)
+    → (k < n → true ≡ eq_z (get_or (take n values) k (pos 0)) w)
+    → first_at (is_value values v) n ≡ k
+found values v w n k e m h before there =
+    first_found (is_value values v) n k h
+    (λ i l. rw (← get_or-take n values i (pos 0) (omega arith), ← e) (sym (before i l)))
+    (λ l. rw (← get_or-take n values k (pos 0) l, ← e) (sym (there l)))
 
-pub returns-then-same : goal.returns-then-same
-returns-then-same c =
-    let p = is_value c.args.values.now c.args.v in
-    let n = num c.args.v c.ranges.v.sfits in
-    let y : p c.loop-k.k ≡ true = sym (rw (num _ c.value-1.given, n) at c.same.ensures) ∙ c.if-same.true in
-    let l = c.loop-k-test.true in
-    let e = search_hit p c.loop-k.k c.least-counted.result (rw n at c.loop-k.invariant.1) y l in
-    rw (← c.least-counted.ensures, e, lt-ltb c.loop-k.k c.least-counted.result l)
+pub returns-then-first-counted : goal.returns-then-first-counted
+returns-then-first-counted c =
+    let a = c.args in
+    let n = c.min-counted.result in
+    let k = c.first_place-first in
+    let m : n ≤ length a.values.now = omega arith in
+    let z = length-take-le n a.values.now m in
+    let e = found a.values.now a.v _ n k.result (num a.v c.ranges.v.sfits) m (omega arith)
+    (λ i l. k.ensures.before i (pos 0) (omega arith) l) (λ l. k.ensures.there (omega arith) (pos 0)) in
+    rw (← c.min.ensures, ← c.min-counted.ensures, e, lt-ltb k.result n c.if-first-counted.true)
 
-pub loop-k-preserved : goal.loop-k-preserved
-loop-k-preserved c = (
-  search rules,
-  search_on (is_value c.args.values.now (to_z w32 (of_z w32 c.args.v))) c.loop-k.k c.loop-k.invariant.1
-      (sym (rw (num _ c.value-1.given) at c.same.ensures) ∙ c.if-same.false),
-)
-
-pub returns : goal.returns
-returns c =
-    let p = is_value c.args.values.now c.args.v in
-    let n = num c.args.v c.ranges.v.sfits in
-    let e : c.loop-k.k ≡ c.least-counted.result = omega arith in
-    let f : first_at p c.least-counted.result ≡ c.least-counted.result = rw e at (rw n at c.loop-k.invariant.1) in
-    rw (← c.least-counted.ensures, f, le-ltb c.least-counted.result c.least-counted.result (omega arith))
+pub returns-else-first-counted : goal.returns-else-first-counted
+returns-else-first-counted c =
+    let a = c.args in
+    let n = c.min-counted.result in
+    let k = c.first_place-first in
+    let m : n ≤ length a.values.now = omega arith in
+    let z = length-take-le n a.values.now m in
+    let e = found a.values.now a.v _ n k.result (num a.v c.ranges.v.sfits) m (omega arith)
+    (λ i l. k.ensures.before i (pos 0) (omega arith) l) (λ l. k.ensures.there (omega arith) (pos 0)) in
+    rw (← c.min.ensures, ← c.min-counted.ensures, e, le-ltb k.result n c.if-first-counted.false)

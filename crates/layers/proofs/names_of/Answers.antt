@@ -1,36 +1,41 @@
-use mathlib.Core.Path.{◌≡◌, refl, ◌∙◌}
-use Prim.Native.Nat.{◌<◌, min}
-use lib.ListN.{length, length-set}
-use borrow.Author.Rules.{rules}
-use native.Mathlib.Omega.{arith}
-use Rattle.arith.specs.Laws.Local.{num}
-use Rattle.preference.specs.List.{named_at}
+use Rattle.std.specs.Prelude.{◌≡◌, refl, ℕ, ◌+◌, ◌<◌, min, Bool, true, false, cond, take, get_or, length}
+use Rattle.std.proofs.Common.{rules, arith, to_z, of_z, w32, length-take}
+use Rattle.std.proofs.lemmas.List.{get_or-take}
+use mir.Val.{bool_byte}
+use Rattle.preference.specs.List.{named_at, zero_named}
 use Rattle.preference.specs.Level.{layer_of}
 use Rattle.preference.specs.Laws.Names.{gathered_none, gathered_more}
 use Rattle.layers.proofs.names_of.Goals as goal
 
-pub loop-k-init : goal.loop-k-init
-loop-k-init c = (search rules, search rules, refl, refl, gathered_none _ _ _ _)
+-- a name is kept where it is one of the preference's
+kept : (b : Bool) (m : ℕ) → m + bool_byte b ≡ cond b (m + 1) m
+kept true m = refl
+kept false m = omega arith
 
-pub loop-k-preserved : goal.loop-k-preserved
-loop-k-preserved c =
+pub loop-naming-init : goal.loop-naming-init
+loop-naming-init c = (search rules, search rules, gathered_none _ _ _ _)
+
+pub loop-naming-preserved : goal.loop-naming-preserved
+loop-naming-preserved c =
     let a = c.args in
-    let m = c.loop-k.next in
-    let f : m < 64 = omega (arith, c.loop-k.invariant.4.few) in
-    let p : m < length c.loop-k.values = omega arith in
-    let q : m < length c.loop-k.layers = omega arith in (
+    let l = c.loop-naming in
+    let k = l.naming-index in
+    let t : k < c.min-count.result = omega (arith, length-take c.min-count.result a.list.named) in
+    let e : get_or (take c.min-count.result a.list.named) k zero_named ≡ named_at a.list k = get_or-take c.min-count.result a.list.named k zero_named t in
+    let f : to_z w32 (of_z w32 (get_or (take c.min-count.result a.list.named) k zero_named).value)
+    ≡ (get_or (take c.min-count.result a.list.named) k zero_named).value = search rules in
+    let n = l.invariant.2.few in (
       search rules,
       search rules,
-      length-set c.loop-k.values m _ ∙ c.loop-k.invariant.2,
-      length-set c.loop-k.layers m _ ∙ c.loop-k.invariant.3,
-      rw (c.place_after-next.ensures, c.wide.ensures, num (named_at a.list c.loop-k.k).value c.struct_told-1.given.1.0.1)
-          (gathered_more a.list a.i c.loop-k.k m c.loop-k.values c.loop-k.layers c.loop-k.invariant.4 p q),
+      rw (c.from-next.ensures, c.from.ensures, f, e, kept)
+          (gathered_more a.list a.i k l.next l.values l.layers l.invariant.2 (omega arith) (omega arith)),
     )
 
 pub returns : goal.returns
 unfolding layer_of
 returns c =
-    let d = c in
-    let e : d.loop-k.k ≡ d.counted_names-count.result = omega arith in
-    let m : min d.loop-k.next (min (length d.loop-k.values) (length d.loop-k.layers)) ≡ d.loop-k.next = omega (arith, d.loop-k.invariant.4.few) in
-    record { layer = λ v others. rw (m, ← d.counted_names-count.ensures, ← e) (d.loop-k.invariant.4.layer v others) }
+    let l = c.loop-naming in
+    let a = c.args in
+    let e : l.naming-index ≡ min a.list.namedcount 64 = omega (arith, length-take c.min-count.result a.list.named) in
+    let m : min l.next (min (length l.values) (length l.layers)) ≡ l.next = omega (arith, l.invariant.2.few) in
+    record { layer = λ v others. rw (m, ← e) (l.invariant.2.layer v others) }

@@ -1,15 +1,34 @@
-use mathlib.Core.Path.{sym, ap, ◌∙◌}
-use borrow.Author.Rules.{rules}
-use Rattle.level_table.specs.Laws.Rule.{rule_layers}
+use Rattle.std.specs.Prelude.{◌≡◌, ℕ, ◌%◌}
+use Rattle.std.proofs.Common.{rules, sym, ap, ◌∙◌, mod-eq_of_lt}
+use Rattle.run_log.specs.Log.{row_at}
+use Rattle.preference.specs.Level.{layer_of}
+use Rattle.preference.specs.Names.{among}
+use Rattle.preference.specs.declared.PartAt.{PartAt}
+use Rattle.level_table.specs.Rule.{distance_level}
+use Rattle.level_table.specs.Table.{part_at}
+use Rattle.level_table.specs.Laws.Rule.{rule_numeric, rule_layers}
 use Rattle.level_table.specs.declared.Rule.{Rule}
 use Rattle.level_table.proofs.fill_part.Goals as goal
 
-pub fill_distances-requires : goal.fill_distances-requires
-fill_distances-requires c =
-    let x = c.rule_of-rule.ensures in record { rule_value = (x, ap (λ (r : Rule). r.layering) (sym x) ∙ c.in-Numeric.is); room = search rules }
-
-pub fill_layers-requires : goal.fill_layers-requires
-fill_layers-requires c =
+pub returns-in-Numeric : goal.returns-in-Numeric
+returns-in-Numeric c =
     let a = c.args in
-    let told = ap (λ (r : Rule). r.layering) (sym c.rule_of-rule.ensures)
-    ∙ c.in-Layers.is in record { layered = record { level = λ row. rule_layers a.list row a.k _ _ told }; room = search rules }
+    let u = c.rule_of-rule in
+    let y = ap (λ (r : Rule). r.layering) (sym u.ensures) ∙ c.in-Numeric.is in
+    c.fill_column.ensures (part_at a.list a.log.now a.k) (λ r v x e m s p.
+    let q : x ≡ distance_level u.result v = search rules in
+    q ∙ rw u.ensures (ap (λ (n : ℕ). n % 65536) (rule_numeric a.list (row_at a.log.now r) a.k y v (rw u.ensures at e) m)))
+
+pub returns-in-Layers : goal.returns-in-Layers
+returns-in-Layers c =
+    let a = c.args in
+    let u = c.rule_of-rule in
+    let n = c.names_of-names in
+    let y = ap (λ (r : Rule). r.layering) (sym u.ensures) ∙ c.in-Layers.is in
+    c.fill_column-in-Layers.ensures (part_at a.list a.log.now a.k) (λ r v x e m s p.
+    let q : x ≡ among n.result.values n.result.layers n.result.count v c.in-Layers.others = search rules in
+    let w = rw u.ensures at e in
+    let f = n.ensures.layer v c.in-Layers.others
+    ∙ ap (λ (q : PartAt). layer_of a.list q.place v c.in-Layers.others) c.part_at.ensures
+    ∙ rw w (rule_layers a.list (row_at a.log.now r) a.k _ _ y) in
+    sym (mod-eq_of_lt s) ∙ ap (λ (n : ℕ). n % 65536) (q ∙ f))

@@ -4,7 +4,6 @@ use lib.ListN.{length}
 use mathlib.Core.List.{List}
 use native.Mathlib.Numerals.{add-one}
 use native.Mathlib.Omega.{arith}
-use borrow.Author.Rules.{rules}
 use Rattle.level_table.specs.Table.{part_at, plane_of}
 use Rattle.level_table.specs.Filled.{with_parts}
 use Rattle.level_table.specs.Laws.Filled.{parts_length, filled}
@@ -16,19 +15,19 @@ long f k rows t t' e = ap length e ∙ parts_length f rows t k
 
 pub loop-k-init : goal.loop-k-init
 unfolding with_parts
-loop-k-init c = (search rules, refl)
+loop-k-init c = refl
 
 pub fill_part-requires : goal.fill_part-requires
 fill_part-requires c =
-    record { rows = omega (arith, c.requires.1, long _ c.loop-k.k _ c.args.table.now _ c.loop-k.invariant.1); column = omega (arith, c.loop-k-test.true) }
+    record { rows = omega (arith, c.requires.1, long _ c.loop-k.k _ c.args.table.now _ c.loop-k.invariant); column = omega (arith, c.loop-k-test.true) }
 
 pub loop-k-preserved : goal.loop-k-preserved
 unfolding with_parts
 loop-k-preserved c =
-    (search rules, c.fill_part.ensures ∙ rw (c.loop-k.invariant.1, add-one c.loop-k.k))
+    c.fill_part.ensures ∙ rw (c.loop-k.invariant, add-one c.loop-k.k)
 
 pub shape_of-table : goal.shape_of-table
-shape_of-table c = long _ c.loop-k.k _ c.args.table.now _ c.loop-k.invariant.1
+shape_of-table c = long _ c.loop-k.k _ c.args.table.now _ c.loop-k.invariant
 
 pub returns : goal.returns
 unfolding plane_of
@@ -36,4 +35,4 @@ returns c =
     let d = c.loop-k in
     let a = c.args in
     let e : d.k ≡ 8 = omega arith in
-    rw e at d.invariant.1 ∙ filled (λ j. part_at a.list a.log.now (a.first + j)) (length a.log.now / 8) a.table.now
+    rw e at d.invariant ∙ filled (λ j. part_at a.list a.log.now (a.first + j)) (length a.log.now / 8) a.table.now

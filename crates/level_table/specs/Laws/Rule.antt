@@ -60,7 +60,8 @@ module _ (l : PreferenceList) (row : List ℤ) (k : ℕ) where
   abbrev told : ℤ → ℕ
   told v =
       let r = rule_of l k in
-      part_in r.pair r.half (ceil_div (gap r.low v + gap v r.up) r.step) (side_by r.low r.up v)
+      part_in r.pair r.half (ceil_div (gap r.target.low v + gap v r.target.up) r.step)
+      (side_by r.target.low r.target.up v)
 
   pub rule_numeric : (rule_of l k).layering ≡ Numeric → (v : ℤ) → v ≡ get_or row (rule_of l k).column (pos 0)
       → mag v < 2147483648
@@ -98,21 +99,3 @@ module _ (l : PreferenceList) (row : List ℤ) (k : ℕ) where
           (level_counted l k (leb-false (length (max_levels l)) k b) row
           ∙ rw (layers_single (constructor_at l place) top others (rw f at y))
           (layers_at l place (row_value l row place) top others (rw f at y))))
-
--- part k goes by distance, with the figures of its rule
-pub record Ruled (l : PreferenceList) (k column : ℕ) (low up : ℤ) (step : ℕ) (pair : Bool) (half : ℕ) : Type 0 where
-  pub numeric : (rule_of l k).layering ≡ Numeric
-  pub column_is : (rule_of l k).column ≡ column
-  pub low_is : (rule_of l k).low ≡ low
-  pub up_is : (rule_of l k).up ≡ up
-  pub step_is : (rule_of l k).step ≡ step
-  pub pair_is : (rule_of l k).pair ≡ pair
-  pub half_is : (rule_of l k).half ≡ half
-
-pub ruled_level : (l : PreferenceList) (k column : ℕ) (low up : ℤ) (step : ℕ) (pair : Bool) (half : ℕ)
-    → Ruled l k column low up step pair half
-    → (row : List ℤ) (v : ℤ) → v ≡ get_or row column (pos 0) → mag v < 2147483648
-    → part_in pair half (ceil_div (gap low v + gap v up) step) (side_by low up v) ≡ get_or (levels l row) k 0
-ruled_level l k column low up step pair half h row v e b =
-    rw (← h.low_is, ← h.up_is, ← h.step_is, ← h.pair_is, ← h.half_is)
-    (rule_numeric l row k h.numeric v (rw h.column_is e) b)

@@ -1,54 +1,40 @@
-use mathlib.Core.Path.{sym, ◌∙◌}
-use borrow.Author.Tests.{le-leb, lt-leb}
-use lib.Dec.{leb}
+use Rattle.std.proofs.Common.{rules, sym, arith}
 use Rattle.arith.specs.Laws.Local.{num}
-use Rattle.laws.specs.Checks.{◌gives◌, ◌then◌}
-use Rattle.laws.specs.Outcome.{outcome}
-use Rattle.laws.specs.Laws.Checks.{then_first}
-use Rattle.laws.specs.Laws.Outcome.{outcome_accepted, outcome_refused}
-use Rattle.preference.specs.Level.{told_at, level_refusal, value_refusal}
+use Rattle.refusal.specs.Laws.Refusal.{call_exit, passes, stops, then_err, then_ok, refused_by, accepted_by}
+use Rattle.refusal.specs.declared.Refusal.TheVariants.{NoRoom}
+use Rattle.preference.specs.Level.{level_refusal}
 use Rattle.preference.specs.Laws.Level.{level_small}
-use native.Mathlib.Omega.{arith}
 use Rattle.levels.proofs.level.Goals as goal
 
-pub returns-then-k-ne0 : goal.returns-then-k-ne0
+pub returns-in_err-check : goal.returns-in_err-check
 unfolding level_refusal
-returns-then-k-ne0 c =
-    let a = c.args in
-    rw (← c.refusal-k.ensures, then_first c.refusal-k.result (leb a.list.count a.place gives 10 then value_refusal a.list a.place a.value) c.if-k-ne0.true)
-    (sym (outcome_refused c.refusal-k.result (told_at a.list a.place a.value) c.if-k-ne0.true))
+returns-in_err-check c = call_exit _ _ _ _ c.from_residual.ensures.1 (then_err _ _ _ c.in_err-check.ensures)
 
-pub returns-then-count-place : goal.returns-then-count-place
-unfolding level_refusal ◌gives◌ ◌then◌ outcome
-returns-then-count-place c =
-    rw (← c.refusal-k.ensures, c.if-k-ne0.false, le-leb _ _ c.if-count-place.true)
+pub returns-then-list-place : goal.returns-then-list-place
+unfolding level_refusal
+returns-then-list-place c =
+    refused_by NoRoom _ _ (then_ok _ _ _ c.in_ok-check.ensures (stops NoRoom _ _ (search rules)))
 
-pub returns-then-outside-ne0 : goal.returns-then-outside-ne0
-unfolding level_refusal ◌gives◌ ◌then◌
-returns-then-outside-ne0 c =
-    let e = rw (num c.args.value c.ranges.value.sfits) at c.value_refusal-outside.ensures in
-    rw (← c.refusal-k.ensures, c.if-k-ne0.false, lt-leb _ _ c.if-count-place.false, ← e)
-    (sym (outcome_refused c.value_refusal-outside.result _ c.if-outside-ne0.true))
+pub returns-in_err-check_value : goal.returns-in_err-check_value
+unfolding level_refusal
+returns-in_err-check_value c =
+    call_exit _ _ _ _ c.from_residual-in_err-check_value.ensures.1
+    (then_ok _ _ _ c.in_ok-check.ensures (passes _ _ _ _ (search rules)
+    (rw (num c.args.value c.ranges.value.sfits) at c.in_err-check_value.ensures)))
 
 pub overflow_cast-result : goal.overflow_cast-result
 overflow_cast-result c =
     let n = num c.args.value c.ranges.value.sfits in
-    let z = sym c.refusal-k.ensures ∙ c.if-k-ne0.false in
-    let o = sym (rw n at c.value_refusal-outside.ensures) ∙ c.if-outside-ne0.false in
-    omega (arith, rw n at c.level_at.ensures, level_small c.args.list c.args.place z c.if-count-place.false c.args.value o)
+    omega (
+      arith,
+      rw n at c.level_at.ensures,
+      level_small c.args.list c.args.place (sym c.in_ok-check.ensures) (search rules) c.args.value (sym (rw n at c.in_ok-check_value.ensures)),
+    )
 
 pub returns : goal.returns
-unfolding level_refusal ◌gives◌ ◌then◌
+unfolding level_refusal
 returns c =
     let n = num c.args.value c.ranges.value.sfits in
-    let e = rw n at c.value_refusal-outside.ensures in
-    rw (
-      ← c.refusal-k.ensures,
-      c.if-k-ne0.false,
-      lt-leb _ _ c.if-count-place.false,
-      ← e,
-      ← rw n at c.level_at.ensures,
-      ← rw n at c.side_at-side.ensures,
-    )
-    (sym (outcome_accepted c.value_refusal-outside.result (record { level = c.level_at.result; side = c.side_at-side.result })
-    c.if-outside-ne0.false))
+    accepted_by _ _ _
+    (sym (then_ok _ _ _ c.in_ok-check.ensures (passes _ _ _ _ (search rules) (rw n at c.in_ok-check_value.ensures))))
+    (rw (c.level_at.ensures, c.side_at.ensures, n))

@@ -1,8 +1,4 @@
-use Prim.Native.Nat.{ℕ, suc, ◌≤◌, ◌-◌, ◌*◌}
-use mathlib.Core.Path.{◌≡◌}
-use mathlib.Core.Bool.{Bool}
-use lib.Dec.{ltb}
-use lib.ListN.{length}
+use Rattle.std.specs.Prelude.{ℕ, suc, ◌≡◌, ◌*◌, ◌≤◌, Bool, ltb, length}
 use Rattle.laws.specs.First.{first_at}
 use Rattle.laws.specs.Lists.{joined}
 use Rattle.preference.specs.Parts.{max_parts}
@@ -13,10 +9,7 @@ use Rattle.levels.proofs.part_at.Given as goal
 abbrev pub more : PreferenceList → ℕ → ℕ → Bool
 more list k i = ltb k (length (joined (max_parts list) (suc i)))
 
-abbrev pub invariant-loop-i : goal.invariant-loop-i
-invariant-loop-i l =
-    (l.i ≤ l.count) × (l.count ≤ 8) × (l.before ≤ 2 * l.i) × (l.before ≤ l.k) × (l.before ≡ length (joined (max_parts l.list) l.i))
-    × (first_at (more l.list l.k) l.i ≡ l.i)
-
-abbrev pub decreases-loop-i : goal.decreases-loop-i
-decreases-loop-i l = l.count - l.i
+abbrev pub invariant-loop-place : goal.invariant-loop-place
+invariant-loop-place l =
+    (l.before ≤ 2 * l.place) × (l.before ≤ l.k) × (l.before ≡ length (joined (max_parts l.list) l.place))
+    × (first_at (more l.list l.k) l.place ≡ l.place)

@@ -1,4 +1,4 @@
-use mathlib.Core.Path.{sym, ap, ◌∙◌}
+use Rattle.std.proofs.Common.{sym, ap, ◌∙◌}
 use lib.ListN.{get_or-eq_default}
 use Rattle.constructor.specs.Level.{max_level}
 use Rattle.preference.specs.List.{constructor_at}
@@ -12,15 +12,13 @@ pub returns-then-counted_places-place : goal.returns-then-counted_places-place
 returns-then-counted_places-place c =
     let a = c.args in
     sym (get_or-eq_default (max_levels a.list) 0
-    (part_past a.list a.k (rw (c.counted_places.ensures, c.part_at-at.ensures) at c.if-counted_places-place.true)))
+    (part_past a.list a.k (rw (c.counted_places.ensures, c.part_at-place.ensures) at c.if-counted_places-place.true)))
 
 pub returns : goal.returns
 unfolding max_at
 returns c =
-    let g = c.before.before in
-    let p = g.before.before in
-    let a = p.args in
+    let a = c.args in
     c.max_level.ensures
-    ∙ ap max_level (c.constructor_at-c.ensures ∙ ap (λ (q : PartAt). constructor_at a.list q.place) p.part_at-at.ensures)
+    ∙ ap max_level (c.constructor_at.ensures ∙ ap (λ (q : PartAt). constructor_at a.list q.place) c.part_at-place.ensures)
     ∙ sym (max_counted a.list a.k
-    (part_counted a.list a.k (rw (g.counted_places.ensures, p.part_at-at.ensures) at g.if-counted_places-place.false)))
+    (part_counted a.list a.k (rw (c.counted_places.ensures, c.part_at-place.ensures) at c.if-counted_places-place.false)))

@@ -1,4 +1,3 @@
-use borrow.Author.Rules.{rules}
 use native.Mathlib.Omega.{arith}
 use native.Mathlib.Numerals.{add-one}
 use native.Mathlib.Nat.{zero-add}
@@ -37,21 +36,19 @@ module _ (c : ℕ → Bool) (r : ℕ) where
   stored_same lent e = rw (row_passed e)
 
 pub loop-r-init : goal.loop-r-init
-loop-r-init c = (search rules, listed_none (competes (log_of c.args.log.now)) c.args.rows.now)
+loop-r-init c = listed_none (competes (log_of c.args.log.now)) c.args.rows.now
 
 pub loop-r-preserved : goal.loop-r-preserved
-loop-r-preserved c = (
-  omega arith,
-  record {
-    counted = grind (arith, count_more, count_same);
-    few = grind arith;
-    stored = grind (arith, stored_more, stored_same);
-  },
-)
+loop-r-preserved c =
+    record {
+      counted = grind (arith, count_more, count_same);
+      few = grind arith;
+      stored = grind (arith, stored_more, stored_same);
+    }
 
 pub returns : goal.returns
 unfolding competing
 returns c =
     let l = c.loop-r in
     let e : l.r ≡ length c.args.log.now / 8 = omega arith in
-    (l.invariant.1.counted ∙ rw e, l.invariant.1.stored ∙ rw e)
+    (l.invariant.counted ∙ rw e, l.invariant.stored ∙ rw e)

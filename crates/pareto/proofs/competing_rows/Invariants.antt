@@ -1,11 +1,7 @@
-use Prim.Native.Nat.{◌≤◌, ◌-◌}
 use Rattle.run_log.specs.Log.{log_of}
 use Rattle.pareto.specs.Best.{competes}
 use Rattle.pareto.specs.Laws.Competing.{Listed}
 use Rattle.pareto.proofs.competing_rows.Given as goal
 
 abbrev pub invariant-loop-r : goal.invariant-loop-r
-invariant-loop-r l = (l.r ≤ l.count) × Listed (competes (log_of l.log)) l.initial.rows l.r l.found l.rows
-
-abbrev pub decreases-loop-r : goal.decreases-loop-r
-decreases-loop-r l = l.count - l.r
+invariant-loop-r l = Listed (competes (log_of l.log)) l.initial.rows l.r l.found l.rows

@@ -3,7 +3,7 @@ use Rattle.std.specs.Prelude.{◌≡◌, refl, ℕ, ◌-◌, ◌/◌, ◌<◌, �
 use Rattle.std.proofs.Common.{sym, ◌∙◌, lt-ltb, le-ltb}
 use Rattle.pareto.specs.Table.{is_double, both_in, lower_in, lower_behind, plane_lower, double_lower, has_lower}
 use Rattle.pareto.specs.Table.{relation, compared, Looked}
-use Rattle.pareto.specs.declared.Lower.{Lower}
+use Rattle.pareto.specs.declared.table.Lower.{Lower}
 
 -- ---- by the number of planes
 
@@ -46,19 +46,13 @@ module _ (n a b : ℕ) where
 -- by which rows there are, and by which has a lower level
 module _ (below : ℕ → ℕ → Bool) (n a b : ℕ) (x : ℕ → ℕ → Bool)
     (e : (p q : ℕ) → below p q ≡ (both_in n p q && x p q)) where
-  pub looked_past : (both_in n a b ≡ false) × (both_in n b a ≡ false)
-      → Looked below a b (record { first = false; second = false; relation = 0 })
-  looked_past h =
-      let p : below a b ≡ false = e a b ∙ rw h.0 in
-      let q : below b a ≡ false = e b a ∙ rw h.1 in
-      record { first_is = sym p; second_is = sym q; relation_is = rw (p, q) }
+  pub looked_past : (both_in n a b ≡ false) × (both_in n b a ≡ false) → (r : Lower) → r.first ≡ false
+      → r.second ≡ false → Looked below a b r
+  looked_past h r f s = record { first_is = f ∙ sym (e a b ∙ rw h.0); second_is = s ∙ sym (e b a ∙ rw h.1) }
 
   pub looked_in : (both_in n a b ≡ true) × (both_in n b a ≡ true) → (r : Lower) → r.first ≡ x a b → r.second ≡ x b a
-      → r.relation ≡ relation r.first r.second → Looked below a b r
-  looked_in h r f s g =
-      let p : below a b ≡ r.first = e a b ∙ rw h.0 (sym f) in
-      let q : below b a ≡ r.second = e b a ∙ rw h.1 (sym s) in
-      record { first_is = sym p; second_is = sym q; relation_is = g ∙ rw (p, q) }
+      → Looked below a b r
+  looked_in h r f s = record { first_is = sym (e a b ∙ rw h.0 (sym f)); second_is = sym (e b a ∙ rw h.1 (sym s)) }
 
 pub plane_is : (t : List ℕ) (a b : ℕ) → plane_lower t a b ≡ (both_in (length t) a b && lower_in t a b)
 unfolding plane_lower

@@ -1,5 +1,5 @@
 -- A look at two rows of the level table of an accepted list and log tells which of them dominates the other.
-use Rattle.std.specs.Prelude.{◌≡◌, refl, ℕ, ◌+◌, ◌-◌, ◌*◌, ◌/◌, ◌<◌, ◌≤◌, Bool, true, false, not, ◌&&◌, ◌||◌, List, [], ◌∷◌, leb, ltb, eqb, ℤ, length, get_or}
+use Rattle.std.specs.Prelude.{◌≡◌, refl, ℕ, ◌+◌, ◌-◌, ◌*◌, ◌/◌, ◌<◌, ◌≤◌, Bool, true, false, not, ◌&&◌, ◌||◌, List, [], ◌∷◌, leb, ltb, ℤ, length, get_or}
 use Rattle.std.proofs.Common.{sym, ◌∙◌, arith, ltb-true, lt-ltb, le-ltb, leb-true, leb-false}
 use Rattle.std.proofs.Math.Decide.{dec_lt}
 use Rattle.std.proofs.Math.ListN.{get_or-eq_default}
@@ -113,7 +113,7 @@ module _ (l : PreferenceList) (log : List ℤ) (e : list_refusal l ≡ 0) (f : r
 pub compared_dominates : (l : PreferenceList) (log : Log) → list_refusal l ≡ 0 → rows_refusal l log.values ≡ 0
     → row_count log.values ≤ 1024
     → (a b : ℕ) → a < row_count log.values → b < row_count log.values
-    → eqb (compared (table_of l log.values) a b) first_dominates ≡ row_dominates l log a b
+    → first_dominates (compared (table_of l log.values) a b) ≡ row_dominates l log a b
 unfolding compared row_dominates dominates vector_at
 compared_dominates l log e f few a b h j =
     let xs = log.values in
@@ -123,7 +123,7 @@ compared_dominates l log e f few a b h j =
     rw (lower_some l xs e f few a b h j, lower_some l xs e f few b a j h, none_not va vb n)
     (cases (some_below va vb) (some_below vb va))
   where
-    cases : (s t : Bool) → eqb (relation s t) first_dominates ≡ (not t && s)
+    cases : (s t : Bool) → first_dominates (relation s t) ≡ (not t && s)
     cases true true = refl
     cases true false = refl
     cases false true = refl

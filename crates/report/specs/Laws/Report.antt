@@ -15,17 +15,20 @@ use Rattle.pareto.specs.Best.{is_best, best_matches, marks_after}
 use Rattle.pareto.specs.Call.{Call, Leaves}
 use Rattle.pareto.specs.Laws.Call.{refused_leaves, accepted_leaves}
 use Rattle.pareto.specs.Laws.Marks.{mark_there}
-use Rattle.text.specs.Prints.{Prints}
-use Rattle.text.specs.Laws.Prints.{prints_whole, prints_same}
+use Rattle.output.specs.Prints.{Prints}
+use Rattle.output.specs.Laws.Prints.{prints_whole, prints_same}
 use Rattle.report_lines.specs.Lines.{refused_text, head_text, line_text, marked_text}
 use Rattle.report_lines.specs.Laws.Lengths.{Values, refused_short, head_short, lines_short}
 use Rattle.word.specs.Laws.Word.{Bytes}
 use Rattle.stream_format.specs.Read.{read_of, log_after}
-use Rattle.stream_format.specs.declared.ReadAnswer.{ReadAnswer}
+use Rattle.stream_format.specs.ReadAnswer.{ReadAnswer}
 use Rattle.selection.specs.Selection.{either_refusal, either_call}
 use Rattle.selection.specs.Stream.{list_in, log_in, program_call}
 use Rattle.selection.specs.Laws.Engines.{either_few, best_few}
-use Rattle.selection.specs.Laws.Stream.{blank, unread_refusal, read_call}
+use Rattle.refusal.specs.Refusal.{number}
+use Rattle.refusal.specs.declared.Refusal.{Refusal}
+use Rattle.refusal.specs.Laws.Refusal.{number_some, then_err}
+use Rattle.selection.specs.Laws.Stream.{stream_call, blank, unread_refusal, read_call}
 use Rattle.report.specs.Laws.Values.{values_fit}
 use Rattle.report.specs.Report.{lines_text, text_of, report_of, Reported}
 
@@ -137,3 +140,24 @@ module _ (s : List ℕ) (r : ReadAnswer) (log : List ℤ) (a : r ≡ read_of s (
       let same = read_call s r log a f due z in
       let small : (program_call s).refusal < 4294967296 = omega (arith, ap (λ (c : Call). c.refusal) same) in
       reported (report_short s b small) (prints_same (ap text_of same) p)
+
+-- ---- the same, by what `selection::read` answers
+
+module _ (s : List ℕ) where
+  -- the stream is refused
+  pub unread_text : (r : Refusal) → number r ≡ (read_of s 8192).refusal → refused_text (number r) ≡ report_of s
+  unfolding report_of
+  unread_text r e =
+      let k : number r ≡ (program_call s).refusal = then_err r (read_of s 8192).refusal _ e in
+      ap refused_text k ∙ refusal_text (program_call s) (λ z. number_some r (k ∙ z))
+
+  -- it is read
+  pub read_text : (l : PreferenceList) (log : Log) → 0 ≡ (read_of s 8192).refusal → l ≡ list_in s → log ≡ log_in s
+      → text_of (either_call l log 1024) ≡ report_of s
+  unfolding report_of
+  read_text l log e p q = ap text_of (stream_call s (λ l rows. either_call l rows 1024) [] l log e p q)
+
+  pub text_reported : {out last : List ℕ} {end : ℕ} → Bytes s → (program_call s).refusal < 4294967296
+      → Prints out last 0 end (report_of s)
+      → Reported out last end (report_of s)
+  text_reported b h p = reported (report_short s b h) p

@@ -1,8 +1,8 @@
-use Rattle.text.specs.Laws.Prints.{prints_then}
+use Rattle.std.proofs.Common.{rules}
+use Rattle.output.specs.Laws.Writes.{with_then}
 use Rattle.report_lines.specs.Lines.{refused_text}
 use Rattle.report_lines.proofs.put_refused.Goals as goal
 
 pub returns : goal.returns
-returns c =
-    unfold refused_text in
-    prints_then (prints_then c.put_bytes-after_word.ensures c.put_decimal-after_number.ensures) c.put_byte.ensures
+unfolding refused_text
+returns c = record { same = search rules; holds = simp with_then (cc) }

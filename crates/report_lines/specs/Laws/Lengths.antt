@@ -1,19 +1,12 @@
 -- How long each text is at most.
-use Rattle.std.specs.Prelude.{◌≡◌, ℕ, zero, suc, ◌+◌, ◌*◌, ◌<◌, ◌≤◌, Bool, true, false, cond, List, [], ℤ, pos, length, get_or, drop}
-use Rattle.std.proofs.Common.{arith, suc-mul, length-append, get_or-take, get_or-drop}
+use Rattle.std.specs.Prelude.{ℕ, ◌+◌, ◌*◌, ◌<◌, ◌≤◌, Bool, true, false, cond, List, [], ℤ, pos, length, get_or, drop}
+use Rattle.std.proofs.Common.{arith, length-append, get_or-take, get_or-drop}
 use Rattle.std.specs.Int.Signed.{mag}
 use Rattle.laws.specs.Lists.{joined}
+use Rattle.laws.specs.Laws.Joined.{joined_short}
 use Rattle.run_log.specs.Log.{row_at}
 use Rattle.text.specs.Laws.Text.{decimal_short, value_short}
 use Rattle.report_lines.specs.Lines.{refused_text, head_text, fields_text, line_text}
-
-joined_short : (f : ℕ → List ℕ) (w n : ℕ) → ((i : ℕ) → i < n → length (f i) ≤ w) → length (joined f n) ≤ n * w
-unfolding joined
-joined_short f w zero h = omega arith
-joined_short f w (suc n) h =
-    let e : suc n * w ≡ n * w + w = suc-mul n w in
-    rw e (omega
-    (arith, length-append (joined f n) (f n), joined_short f w n (λ i l. h i (omega arith)), h n (omega arith)))
 
 pub refused_short : (k : ℕ) → k < 4294967296 → length (refused_text k) ≤ 19
 unfolding refused_text
@@ -47,7 +40,9 @@ module _ (log : List ℤ) (f : Values log) where
   pub lines_short : (p : ℕ → Bool) (n : ℕ) → n ≤ 1024
       → length (joined (λ r. cond (p r) (line_text log r) []) n) ≤ n * 29
   lines_short p n h =
-      joined_short (λ r. cond (p r) (line_text log r) []) 29 n (λ r l. picked r (p r) (line_short r (omega arith)))
+      let s =
+      joined_short (λ r. cond (p r) (line_text log r) []) 29 n (λ r l. picked r (p r) (line_short r (omega arith))) in
+      omega (arith, s)
     where
       picked : (r : ℕ) (t : Bool) → length (line_text log r) ≤ 29 → length (cond t (line_text log r) []) ≤ 29
       picked r true s = s

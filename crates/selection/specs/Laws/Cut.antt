@@ -5,7 +5,7 @@ use Rattle.std.proofs.Common.{sym, ap, ◌∙◌, arith, take_all}
 use Rattle.std.proofs.Math.Decide.{dec_lt}
 use Rattle.stream_format.specs.Read.{read_of}
 use Rattle.stream_format.specs.Laws.Cut.{read_cut, cut_refused}
-use Rattle.stream_format.specs.declared.ReadAnswer.{ReadAnswer}
+use Rattle.stream_format.specs.ReadAnswer.{ReadAnswer}
 
 -- what is printed of a stream that cannot be read is told by its number
 module _ (text : List ℕ → List ℕ) (refusedAs : ℕ → List ℕ)

@@ -4,6 +4,9 @@ use Rattle.std.proofs.Common.{sym, ap, ◌∙◌, arith, length-take}
 use Rattle.std.proofs.lemmas.List.{length-replicate}
 use Rattle.laws.specs.Outcome.{Outcome, refused}
 use Rattle.laws.specs.Laws.Checks.{then_first, then_next}
+use Rattle.refusal.specs.Refusal.{number}
+use Rattle.refusal.specs.declared.Refusal.{Refusal}
+use Rattle.refusal.specs.Laws.Refusal.{number_some, then_err}
 use Rattle.run_log.specs.Log.{Log, log_of}
 use Rattle.preference.specs.declared.PreferenceList.{PreferenceList}
 use Rattle.pareto.specs.Call.{Call, Leaves}
@@ -11,7 +14,7 @@ use Rattle.pareto.specs.Laws.Call.{leaves_refused}
 use Rattle.stream_format.specs.Read.{read_of, log_after}
 use Rattle.stream_format.specs.Laws.Accepted.{read_accepted}
 use Rattle.stream_format.specs.Laws.Rows.{values_long, log_read}
-use Rattle.stream_format.specs.declared.ReadAnswer.{ReadAnswer}
+use Rattle.stream_format.specs.ReadAnswer.{ReadAnswer}
 use Rattle.selection.specs.Stream.{list_in, log_in, after_reading}
 
 -- the log that reading fills
@@ -71,3 +74,27 @@ module _ (s : List ℕ) (r : ReadAnswer) (log : List ℤ) (a : r ≡ read_of s (
           → Leaves (call r.list (log_of (take (8 * r.rows) log))) marks ends marks'
           → Leaves (after_reading s call) marks ends marks'
       read_leaves marks' ends z b = rw (read_call z) at b
+
+-- ---- a call on a stream, by what `selection::read` answers
+
+module _ (s : List ℕ) (call : PreferenceList → Log → Call) (marks : List ℕ) where
+  -- the stream is refused
+  pub stream_refused : (r : Refusal) → number r ≡ (read_of s 8192).refusal
+      → Leaves (after_reading s call) marks (refused (number r)) marks
+  stream_refused r e =
+      leaves_refused (after_reading s call) marks (number r) (sym (then_err r _ _ e)) (number_some r)
+
+  -- it is read: the call on a stream is the call on what it holds
+  pub stream_call : (l : PreferenceList) (log : Log) → 0 ≡ (read_of s 8192).refusal → l ≡ list_in s → log ≡ log_in s
+      → call l log ≡ after_reading s call
+  stream_call l log e p q =
+      let due = call (list_in s) (log_in s) in
+      let k = sym (then_next (read_of s 8192).refusal due.refusal (sym e)) in
+      let same : due ≡ after_reading s call =
+      ap (λ (j : ℕ). record { list = due.list; log = due.log; refusal = j; value = due.value }) k in
+      rw (p, q) same
+
+  pub stream_read : (l : PreferenceList) (log : Log) (ends : Outcome ℕ) (marks' : List ℕ)
+      → 0 ≡ (read_of s 8192).refusal → l ≡ list_in s → log ≡ log_in s → Leaves (call l log) marks ends marks'
+      → Leaves (after_reading s call) marks ends marks'
+  stream_read l log ends marks' e p q b = rw (stream_call l log e p q) at b

@@ -3,7 +3,7 @@ use mathlib.Core.List.{List}
 use Prim.Native.Nat.{ℕ}
 use lib.ListN.{length, take}
 use lib.Seq.{length-take-le}
-use Rattle.word.specs.Puts.{Puts}
+use Rattle.output.specs.Puts.{Puts}
 use Rattle.sheet_report.specs.Sheet.{sheet_report}
 use Rattle.sheet_report.specs.Laws.Report.{text_for_all, report_cut}
 use Rattle.sheet.proofs.sheet_front.Goals as goal

@@ -4,4 +4,4 @@ use Rattle.sheet_lines.proofs.put_heading.Goals as goal
 
 pub returns : goal.returns
 unfolding heading_line fields_of joined padded field_width
-returns c = c.put_bytes.ensures
+returns c = c.put_str.ensures

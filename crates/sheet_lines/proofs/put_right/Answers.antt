@@ -1,15 +1,11 @@
-use Prim.Native.Nat.{◌-◌}
-use lib.ListN.{length}
-use mathlib.Core.Path.{ap}
-use Rattle.text.specs.Laws.Prints.{prints_then, prints_same}
-use Rattle.sheet_lines.specs.Line.{padded}
-use Rattle.sheet_lines.specs.Laws.Turns.{spaces, part_from}
+use Rattle.std.proofs.Common.{◌∙◌, length, ap, arith, rules}
+use Rattle.std.specs.Fn.{FnOnceReturnsAtMut}
+use Rattle.output.specs.Laws.Stored.{written_whole}
 use Rattle.sheet_lines.proofs.put_right.Goals as goal
 
 pub returns : goal.returns
-unfolding padded
-returns c =
-    let t = c.args.t.now in
-    prints_then (prints_same (ap spaces c.excess.ensures) c.put_spaces-next.ensures)
-    (prints_same (part_from t c.excess-from.result (length t - c.args.places) c.excess-from.ensures)
-    c.put_bytes.ensures)
+returns g c = λ x short writes.
+    let ran : FnOnceReturnsAtMut g.F.FnOnce c.args.put c.new-text.result tt c.put.new.arg2 = search rules in
+    let room = ap length c.new-text.ensures.bytes in
+    let whole = written_whole (writes _ _ ran) c.new-text.ensures.start (omega arith) (omega arith) in
+    rw (c.written.ensures ∙ whole) at c.put_padded.ensures

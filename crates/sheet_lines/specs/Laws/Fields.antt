@@ -1,19 +1,17 @@
 -- Each text of a line fits its places, whatever the figures.
-use Rattle.std.specs.Prelude.{◌≡◌, List, ◌++◌, ℤ, pos, length, get_or, drop, replicate}
-use Rattle.std.proofs.Common.{◌∙◌, length-append, length-drop}
+use Rattle.std.specs.Prelude.{◌≡◌, List, ◌++◌, ℤ, pos, length, get_or, replicate}
+use Rattle.std.proofs.Common.{length-append}
 use Prim.Native.Nat.{ℕ, zero, suc, ◌-◌, ◌<◌, ◌≤◌}
 use native.Mathlib.Omega.{arith}
+use Rattle.std.proofs.lemmas.Grind.{common_steps}
 use Rattle.std.specs.Int.Signed.{mag}
-use Rattle.std.proofs.lemmas.List.{length-replicate}
 use Rattle.text.specs.Laws.Text.{decimal_short, value_short, hundredths_short}
 use Rattle.sheet_lines.specs.Line.{padded, field_width, field_text, foot_text}
 
 -- w places, whatever the text
 pub padded_long : (w : ℕ) (t : List ℕ) → length (padded w t) ≡ w
 unfolding padded
-padded_long w t =
-    length-append {A = ℕ} (replicate (w - length t) 32) (drop (length t - w) t)
-    ∙ omega (arith, length-replicate {A = ℕ} (w - length t) 32, length-drop (length t - w) t)
+padded_long w t = grind (arith, common_steps)
 
 -- a text that fits stands there whole
 pub padded_whole : (w : ℕ) (t : List ℕ) → length t ≤ w → padded w t ≡ replicate (w - length t) 32 ++ t

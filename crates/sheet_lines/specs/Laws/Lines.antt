@@ -1,9 +1,10 @@
 -- Every line has 102 bytes: 101 characters, and a line feed.
 use Rattle.std.specs.Prelude.{◌≡◌, refl, ℕ, zero, suc, ◌+◌, ◌*◌, ◌-◌, ◌<◌, ◌≤◌, true, List, [], ◌∷◌, ◌++◌, ℤ, pos, length, get_or, drop, replicate}
-use Rattle.std.proofs.Common.{ap, ◌∙◌, arith, not-suc-le-zero, length-append, get_or-append-add}
+use Rattle.std.proofs.Common.{◌∙◌, arith, length-append}
 use Rattle.std.proofs.Math.Decide.{dec_lt}
 use Rattle.std.proofs.Math.ListN.{get_or-append}
 use Rattle.std.proofs.lemmas.List.{get_or_at}
+use Rattle.std.proofs.lemmas.Grind.{common_steps}
 use Rattle.laws.specs.Lists.{joined}
 use Rattle.text.specs.Letters.{letters}
 use Rattle.text.specs.Text.{decimal}
@@ -20,12 +21,7 @@ pub record Lined (x : List ℕ) (n : ℕ) : Type 0 where
   pub shows : (i k : ℕ) → i < n → k < 101 → is_character (get_or x (102 * i + k) 0) ≡ true
 
 pub lined_none : Lined [] 0
-lined_none =
-    record {
-      long = refl;
-      feeds = λ i h. absurd (not-suc-le-zero h);
-      shows = λ i k h l. absurd (not-suc-le-zero h);
-    }
+lined_none = grind arith
 
 lined_one : (x : List ℕ) → length x ≡ 101 → is_text x ≡ true → Lined (x ++ 10 ∷ []) 1
 lined_one x e t =
@@ -43,9 +39,7 @@ module _ (x y : List ℕ) (m : ℕ) (long : length x ≡ 102 * m) where
   in_first i k h l = get_or-append x y 0 (102 * i + k) (omega arith)
 
   in_second : (i k : ℕ) → m ≤ i → get_or (x ++ y) (102 * i + k) 0 ≡ get_or y (102 * (i - m) + k) 0
-  in_second i k h =
-      let e : 102 * i + k ≡ length x + (102 * (i - m) + k) = omega arith in
-      ap (λ (j : ℕ). get_or (x ++ y) j 0) e ∙ get_or-append-add x y (102 * (i - m) + k) 0
+  in_second i k h = grind (arith, common_steps)
 
 pub lined_then : (x y : List ℕ) (m n : ℕ) → Lined x m → Lined y n → Lined (x ++ y) (m + n)
 lined_then x y m n p q =

@@ -32,3 +32,6 @@ text_other r row zero a b = absurd (a refl)
 text_other r row (suc zero) a b = absurd (b refl)
 text_other r row (suc (suc j)) a b =
     let e : suc (suc j) - 1 ≡ suc j = omega arith in ap (λ (k : ℕ). signed (get_or row k (pos 0))) e
+
+pub part_rest : (t : List ℕ) (k : ℕ) → take (length t - k) (drop k t) ≡ drop k t
+part_rest t k = part_from t k k refl

@@ -12,10 +12,10 @@ use Rattle.laws.specs.Laws.Outcome.{refused_refusal}
 use Rattle.run_log.specs.Log.{row_count, log_refusal, marked_rows}
 use Rattle.run_log.specs.Laws.Log.{accepted as accepted-log}
 use Rattle.run_log.specs.Laws.Marks.{marked_in_order}
-use Rattle.word.specs.Puts.{Puts}
-use Rattle.word.specs.Laws.Puts.{Stands, puts_stands}
-use Rattle.text.specs.Prints.{Prints}
-use Rattle.text.specs.Laws.Prints.{prints_whole}
+use Rattle.output.specs.Puts.{Puts}
+use Rattle.output.specs.Laws.Puts.{Stands, puts_stands}
+use Rattle.output.specs.Prints.{Prints}
+use Rattle.output.specs.Laws.Prints.{prints_whole}
 use Rattle.sheet_pages.specs.Pages.{page_count, pages_of, sheet_of}
 use Rattle.sheet_pages.specs.Call.{handed_refusal, room_refusal, sheet_refusal, out_after, SheetLeft}
 use Rattle.sheet_pages.specs.Laws.Pages.{pages_long, pages_short}

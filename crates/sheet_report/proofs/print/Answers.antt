@@ -1,23 +1,18 @@
-use native.Mathlib.Omega.{arith}
-use mathlib.Core.Path.{sym}
-use Rattle.selection.specs.Laws.Stream.{few_numbers, rows_fit, rows_long}
-use Rattle.sheet_pages.specs.Call.{outcome_of}
-use Rattle.sheet_report.specs.Laws.Report.{read_printed}
+use Rattle.std.proofs.Common.{ap}
+use Rattle.std.proofs.lemmas.Result.{err_from_is_err_and}
+use Rattle.run_log.specs.Log.{log_of}
+use Rattle.refusal.specs.Refusal.{outcome_of}
+use Rattle.sheet_report.specs.Laws.Report.{unread_left, read_left}
 use Rattle.sheet_report.proofs.print.Goals as goal
 
-pub overflow_mul-end : goal.overflow_mul-end
-overflow_mul-end c =
-    omega (arith, few_numbers c.args.stream.now c.read-read.result c.read-read.new.log c.read-read.ensures.0 c.read-read.ensures.1 (omega arith))
-
-pub slice_bounds-log-end : goal.slice_bounds-log-end
-slice_bounds-log-end c =
-    rows_fit c.args.stream.now c.read-read.result c.read-read.new.log c.read-read.ensures.0 c.read-read.ensures.1 (omega arith)
-
-pub slice_bounds-print_selected-end : goal.slice_bounds-print_selected-end
-slice_bounds-print_selected-end c =
-    sym (rows_long c.args.stream.now c.read-read.result c.read-read.new.log c.read-read.ensures.0 c.read-read.ensures.1 (omega arith))
+pub returns-in_err-held : goal.returns-in_err-held
+returns-in_err-held c =
+    let a = c.args in
+    let p = err_from_is_err_and c.from_residual.result c.from_residual.ensures.1 in
+    rw (p.1, p.2) (unread_left a.stream.now a.out.now _ c.in_err-held.ensures.refused)
 
 pub returns : goal.returns
 returns c =
-    read_printed c.args.stream.now c.read-read.result c.read-read.new.log c.read-read.ensures.0 c.read-read.ensures.1 c.args.out.now
-    (outcome_of c.print_selected.result) _ (omega arith) c.print_selected.ensures
+    let a = c.args in
+    let h = c.in_ok-held.ensures in
+    read_left a.stream.now a.out.now _ _ (outcome_of c.print_selected.result) _ h.refused h.held.0 (ap log_of h.held.1) c.print_selected.ensures

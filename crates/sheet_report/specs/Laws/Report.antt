@@ -1,5 +1,5 @@
 -- From what reading, selecting and printing answer to what a call on a stream answers and leaves.
-use Rattle.std.specs.Prelude.{◌≡◌, refl, ℕ, ◌*◌, ◌<◌, ◌≤◌, Bool, true, false, List, ◌++◌, eqb, ℤ, take}
+use Rattle.std.specs.Prelude.{◌≡◌, refl, ℕ, ◌*◌, ◌<◌, ◌≤◌, Bool, true, false, List, [], ◌++◌, eqb, ℤ, take}
 use Rattle.std.proofs.Math.Path.{sym, ap, subst}
 use Rattle.std.proofs.Common.{◌∙◌, arith, zero-add}
 use Rattle.std.proofs.Math.ListN.{length, drop}
@@ -14,15 +14,18 @@ use Rattle.pareto.specs.Best.{best_matches}
 use Rattle.pareto.specs.Call.{Call, Leaves}
 use Rattle.pareto.specs.Laws.Call.{refused_leaves, accepted_leaves}
 use Rattle.stream_format.specs.Read.{read_of, log_after}
-use Rattle.stream_format.specs.declared.ReadAnswer.{ReadAnswer}
+use Rattle.stream_format.specs.ReadAnswer.{ReadAnswer}
 use Rattle.selection.specs.Selection.{either_call}
 use Rattle.selection.specs.Stream.{list_in, log_in, program_call}
 use Rattle.selection.specs.Laws.Cut.{text_cut}
 use Rattle.selection.specs.Laws.Engines.{either_log, either_few, best_few}
-use Rattle.selection.specs.Laws.Stream.{blank, unread_refusal, read_call}
-use Rattle.word.specs.Puts.{Puts}
-use Rattle.text.specs.Prints.{Prints}
-use Rattle.text.specs.Laws.Prints.{prints_whole}
+use Rattle.refusal.specs.Refusal.{number}
+use Rattle.refusal.specs.declared.Refusal.{Refusal}
+use Rattle.refusal.specs.Laws.Refusal.{number_some, then_err}
+use Rattle.selection.specs.Laws.Stream.{blank, unread_refusal, read_call, stream_call}
+use Rattle.output.specs.Puts.{Puts}
+use Rattle.output.specs.Prints.{Prints}
+use Rattle.output.specs.Laws.Prints.{prints_whole}
 use Rattle.report_lines.specs.Lines.{refused_text}
 use Rattle.report_lines.specs.Laws.Lengths.{refused_short}
 use Rattle.sheet_pages.specs.Pages.{pages_of, sheet_of}
@@ -96,6 +99,25 @@ module _ (s : List ℕ) (r : ReadAnswer) (log : List ℤ) (a : r ≡ read_of s (
   read_printed ends out' z b =
       subst (λ (c : Call). SheetLeft (refusal_for c (length out)) (sheet_for c) out ends out')
       (read_call s r log a f due z) b
+
+-- ---- the same, by what `selection::read` answers
+
+module _ (s out : List ℕ) where
+  pub unread_left : (r : Refusal) → number r ≡ (read_of s 8192).refusal
+      → SheetLeft (stream_refusal s (length out)) (stream_sheet s) out (refused (number r)) out
+  unfolding stream_refusal stream_sheet
+  unread_left r e =
+      before_room (program_call s) out (number r) (sym (then_err r (read_of s 8192).refusal _ e)) (number_some r)
+
+  pub read_left : (l : PreferenceList) (log : Log) (ends : Outcome ℕ) (out' : List ℕ)
+      → 0 ≡ (read_of s 8192).refusal → l ≡ list_in s → log ≡ log_in s
+      → let c = either_call l log 1024 in
+      SheetLeft (refusal_for c (length out)) (sheet_for c) out ends out'
+      → SheetLeft (stream_refusal s (length out)) (stream_sheet s) out ends out'
+  unfolding stream_refusal stream_sheet
+  read_left l log ends out' e p q b =
+      subst (λ (c : Call). SheetLeft (refusal_for c (length out)) (sheet_for c) out ends out')
+      (stream_call s (λ l rows. either_call l rows 1024) [] l log e p q) b
 
 -- ---- what is printed
 

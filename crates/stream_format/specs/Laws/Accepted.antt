@@ -10,7 +10,7 @@ use Rattle.stream_format.specs.Read.{unless_refused, with_record, step, steps, s
 use Rattle.stream_format.specs.Read.{read_of}
 use Rattle.stream_format.specs.Midway.{Enough}
 use Rattle.stream_format.specs.Laws.Read.{accepts, going, step_keeps, steps_keep, enough_step}
-use Rattle.stream_format.specs.declared.ReadAnswer.{ReadAnswer}
+use Rattle.stream_format.specs.ReadAnswer.{ReadAnswer}
 
 all_read : (n : ℕ) (s : List ℕ) (r : ReadAnswer) → Enough s r n → Enough s (steps n s r) 0
 unfolding steps

@@ -2,7 +2,7 @@
 -- refused: no record begins behind byte 34,334, and none has more than 33 bytes.
 use Rattle.std.specs.Prelude.{◌≡◌, Bool, List, get_or, drop, take}
 use Rattle.std.proofs.Math.Path.{refl, sym, ap}
-use Rattle.std.proofs.Common.{◌∙◌, zero-add, suc-add, length-drop, length-take-le, get_or-take, get_or-drop}
+use Rattle.std.proofs.Common.{◌∙◌, length-drop, length-take-le, get_or-take, get_or-drop}
 use Prim.Native.Nat.{ℕ, zero, suc, ◌+◌, ◌-◌, ◌<◌, ◌≤◌}
 use native.Mathlib.Omega.{arith}
 use Rattle.std.proofs.Math.Bool.{true, false}
@@ -16,12 +16,12 @@ use Rattle.stream_format.specs.Read.{constructor_of, preference_of, named_of, fi
 use Rattle.stream_format.specs.Read.{list_after, with_record, take_record, goes, step, steps, start, records, finish}
 use Rattle.stream_format.specs.Read.{read_of}
 use Rattle.stream_format.specs.Laws.Kinds.{body_short}
-use Rattle.stream_format.specs.Laws.Read.{steps_keep, steps_ended}
+use Rattle.stream_format.specs.Laws.Read.{steps_keep, steps_ended, steps_add}
 use Rattle.stream_format.specs.Laws.Accepted.{records_end}
 use Rattle.stream_format.specs.Laws.Longest.{Kept, kept_start, kept_step, kept_small}
 use Rattle.stream_format.specs.declared.Class.{Class}
 use Rattle.stream_format.specs.declared.Class.TheVariants.{Unknown, PreferenceRecord, NamedRecord, RunRecord}
-use Rattle.stream_format.specs.declared.ReadAnswer.{ReadAnswer}
+use Rattle.stream_format.specs.ReadAnswer.{ReadAnswer}
 
 -- ---- what a record says stands in its first 33 bytes
 
@@ -102,11 +102,6 @@ module _ (xs ys : List ℕ) (f : Front xs ys) where
 
 -- ---- a stream s, cut at byte n
 
-steps_more : (m n : ℕ) (s : List ℕ) (r : ReadAnswer) → steps (m + n) s r ≡ steps n s (steps m s r)
-unfolding steps
-steps_more zero n s r = rw (zero-add n)
-steps_more (suc m) n s r = rw (suc-add m n) (steps_more m n s (step s r))
-
 module _ (s : List ℕ) (n : ℕ) (late : 34367 ≤ n) (long : n ≤ length s) where
   abbrev cut : List ℕ
   cut = take n s
@@ -158,7 +153,7 @@ module _ (s : List ℕ) (n : ℕ) (late : 34367 ≤ n) (long : n ≤ length s) w
       let over : goes s (records cut) ≡ false = rw (ne_eqb (records cut).refusal 0 refused_there) in
       let rest : n + (length s - n) ≡ length s = omega arith in
       sym (steps_ended (length s - n) s (records cut) over) ∙ ap (steps (length s - n) s) cut_is
-      ∙ sym (steps_more n (length s - n) s start) ∙ ap (λ m. steps m s start) rest
+      ∙ sym (steps_add n (length s - n) s start) ∙ ap (λ m. steps m s start) rest
 
   still : (room : ℕ) → read_of cut room ≡ records cut
   unfolding read_of finish

@@ -22,7 +22,7 @@ use Rattle.stream_format.specs.Laws.Read.{accepts, step_keeps, steps_keep}
 use Rattle.stream_format.specs.Laws.Accepted.{records_end}
 use Rattle.stream_format.specs.declared.Class.{Class}
 use Rattle.stream_format.specs.declared.Class.TheVariants.{Unknown, PreferenceRecord, NamedRecord, RunRecord}
-use Rattle.stream_format.specs.declared.ReadAnswer.{ReadAnswer}
+use Rattle.stream_format.specs.ReadAnswer.{ReadAnswer}
 
 pub empty_one : (room : ℕ) → read_of [] room ≡ refused_at 1 0
 unfolding read_of finish records steps end_refusal ◌gives◌ ◌then◌

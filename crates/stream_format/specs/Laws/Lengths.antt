@@ -1,10 +1,11 @@
 -- How long the bytes of a record are: one of kind, and the body that the kind fixes.
-use Rattle.std.specs.Prelude.{◌≡◌, refl, ℕ, zero, suc, ◌+◌, ◌*◌, ◌<◌, ◌≤◌, List, [], ◌∷◌, Bool, true, false, cond, eqb, ℤ, length, drop}
+use Rattle.std.specs.Prelude.{◌≡◌, refl, ℕ, suc, ◌+◌, ◌*◌, ◌≤◌, List, [], ◌∷◌, Bool, true, false, cond, eqb, ℤ, length, drop}
 use Rattle.std.proofs.Common.{ap, ◌∙◌, arith, length-append, length-take}
 use Rattle.word.specs.Word.{word_bytes, int_bytes}
 use Rattle.run_log.specs.Log.{row_at}
 use Rattle.preference.specs.List.{preference_at, named_at}
 use Rattle.laws.specs.Lists.{joined}
+use Rattle.laws.specs.Laws.Joined.{joined_short}
 use Rattle.preference.specs.declared.Preference.{Preference}
 use Rattle.preference.specs.declared.Named.{Named}
 use Rattle.preference.specs.declared.PreferenceList.{PreferenceList}
@@ -62,13 +63,6 @@ ints_long (v ∷ vs) = length-append (int_bytes v) (ints_bytes vs) ∙ omega (ar
 pub run_long : (vs : List ℤ) → length (run_bytes vs) ≡ 1 + 4 * length vs
 unfolding run_bytes
 run_long vs = omega (arith, ints_long vs)
-
--- n lists of at most b
-pub joined_short : (f : ℕ → List ℕ) (b n : ℕ) → ((i : ℕ) → i < n → length (f i) ≤ b) → length (joined f n) ≤ b * n
-unfolding joined
-joined_short f b zero h = omega arith
-joined_short f b (suc n) h =
-    omega (arith, length-append (joined f n) (f n), joined_short f b n (λ i k. h i (omega arith)), h n (omega arith))
 
 -- ---- parts of a stream
 

@@ -26,7 +26,7 @@ use Rattle.stream_format.specs.Laws.Read.{steps_keep, columns_step}
 use Rattle.stream_format.specs.Laws.Accepted.{read_accepted, records_end}
 use Rattle.stream_format.specs.declared.Class.{Class}
 use Rattle.stream_format.specs.declared.Class.TheVariants.{Unknown, PreferenceRecord, NamedRecord, RunRecord}
-use Rattle.stream_format.specs.declared.ReadAnswer.{ReadAnswer}
+use Rattle.stream_format.specs.ReadAnswer.{ReadAnswer}
 
 -- a LAYERED record has a body of 3
 layered_short : (k : ℕ) (bs : List ℕ) → (kind_of k).class ≡ PreferenceRecord

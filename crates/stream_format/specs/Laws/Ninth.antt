@@ -11,7 +11,7 @@ use Rattle.stream_format.specs.Midway.{Columns}
 use Rattle.stream_format.specs.Laws.Columns.{columns_free}
 use Rattle.stream_format.specs.Laws.Read.{columns_steps}
 use Rattle.stream_format.specs.declared.Class.TheVariants.{PreferenceRecord}
-use Rattle.stream_format.specs.declared.ReadAnswer.{ReadAnswer}
+use Rattle.stream_format.specs.ReadAnswer.{ReadAnswer}
 
 column_five : (l : PreferenceList) (column : ℕ) → Columns l → l.count ≡ 8 → column_refusal l l.count column ≡ 5
 unfolding column_refusal ◌gives◌ ◌then◌

@@ -1,13 +1,14 @@
 -- Reading record by record: what an accepted record has, what each step keeps, and that reading that has ended stays.
 use Rattle.std.specs.Prelude.{◌≡◌, refl, Bool, true, false, leb, ltb, eqb, List, length, get_or}
-use Rattle.std.proofs.Common.{ap, ◌∙◌, sym, arith}
-use Prim.Native.Nat.{ℕ, zero, suc, ◌-◌, ◌≤◌, ◌<◌}
+use Rattle.std.proofs.Common.{ap, ◌∙◌, sym, arith, zero-add, suc-add}
+use Prim.Native.Nat.{ℕ, zero, suc, ◌+◌, ◌≤◌, ◌<◌}
 use borrow.Author.Tests.{eq-eqb, ne_eqb, leb-false, eqb-true, ltb-true, ltb-false}
 use Rattle.std.proofs.Math.ListN.{drop}
 use Rattle.laws.specs.Checks.{◌gives◌}
 use Rattle.laws.specs.Laws.Bools.{both}
 use Rattle.laws.specs.Laws.Checks.{gives_none, then_none}
 use Rattle.constructor.specs.Valid.{layer_refusal}
+use Rattle.preference.specs.declared.PreferenceList.{PreferenceList}
 use Rattle.stream_format.specs.Kinds.{class_of, body_of}
 use Rattle.stream_format.specs.Read.{preference_of, last_constructor, out_of_place, naming_refusal, figures_refusal}
 use Rattle.stream_format.specs.Read.{is_unknown, record_refusal, list_after, refused_at, unless_refused, with_record}
@@ -16,7 +17,7 @@ use Rattle.stream_format.specs.Midway.{Columns, to_read, Enough, Midway}
 use Rattle.stream_format.specs.Laws.Columns.{columns_zero, columns_room, columns_added}
 use Rattle.stream_format.specs.declared.Class.{Class}
 use Rattle.stream_format.specs.declared.Class.TheVariants.{Unknown, PreferenceRecord, NamedRecord, RunRecord}
-use Rattle.stream_format.specs.declared.ReadAnswer.{ReadAnswer}
+use Rattle.stream_format.specs.ReadAnswer.{ReadAnswer}
 
 -- a record that is not refused
 pub record Accepts (r : ReadAnswer) (bs : List ℕ) : Type 0 where
@@ -39,18 +40,20 @@ accepts r bs e =
     }
 
 -- there is room for it
+pub naming_room : (l : PreferenceList) (layer : ℕ) → naming_refusal l layer ≡ 0 → l.namedcount < 64
+unfolding naming_refusal
+naming_room l layer e =
+    leb-false 64 l.namedcount
+    (gives_none (leb 64 l.namedcount) 6 (then_none (layer_refusal (last_constructor l) layer) _ e).1)
+
 module _ (r : ReadAnswer) (bs : List ℕ) (a : Accepts r bs) where
   pub preference_room : Columns r.list → class_of bs ≡ PreferenceRecord → r.list.count < 8
   unfolding figures_refusal
   preference_room h e = columns_room r.list (preference_of bs) h (rw e at a.figures)
 
   pub named_room : class_of bs ≡ NamedRecord → r.list.namedcount < 64
-  unfolding figures_refusal naming_refusal
-  named_room e =
-      let l = r.list in
-      let f : naming_refusal l (get_or bs 5 0) ≡ 0 = rw e at a.figures in
-      leb-false 64 l.namedcount
-      (gives_none (leb 64 l.namedcount) 6 (then_none (layer_refusal (last_constructor l) (get_or bs 5 0)) _ f).1)
+  unfolding figures_refusal
+  named_room e = naming_room r.list (get_or bs 5 0) (rw e at a.figures)
 
   pub run_room : class_of bs ≡ RunRecord → r.rows < 1024
   unfolding figures_refusal
@@ -97,6 +100,12 @@ module _ (P : ReadAnswer → Type 0) (s : List ℕ) where
   unfolding steps
   steps_keep f zero r p = p
   steps_keep f (suc n) r p = steps_keep f n (step s r) (f r p)
+
+-- m steps, and n more
+pub steps_add : (m n : ℕ) (s : List ℕ) (r : ReadAnswer) → steps (m + n) s r ≡ steps n s (steps m s r)
+unfolding steps
+steps_add zero n s r = rw (zero-add n)
+steps_add (suc m) n s r = rw (suc-add m n) (steps_add m n s (step s r))
 
 -- the columns of the list
 columns_after : (class : Class) (r : ReadAnswer) (bs : List ℕ) → Columns r.list → figures_refusal class r bs ≡ 0

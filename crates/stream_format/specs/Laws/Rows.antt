@@ -17,7 +17,7 @@ use Rattle.stream_format.specs.Laws.Read.{step_goes, steps_ended}
 use Rattle.stream_format.specs.Laws.Values.{values_end}
 use Rattle.stream_format.specs.declared.Class.{Class}
 use Rattle.stream_format.specs.declared.Class.TheVariants.{Unknown, PreferenceRecord, NamedRecord, RunRecord}
-use Rattle.stream_format.specs.declared.ReadAnswer.{ReadAnswer}
+use Rattle.stream_format.specs.ReadAnswer.{ReadAnswer}
 
 rows_and_values : (class : Class) (bs : List ℕ) (rows : ℕ)
     → 8 * rows_after class rows ≡ 8 * rows + length (values_under class bs)

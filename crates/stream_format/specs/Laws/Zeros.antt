@@ -11,7 +11,7 @@ use Rattle.stream_format.specs.Read.{with_record, unless_refused, step, start, r
 use Rattle.stream_format.specs.Laws.Read.{step_keeps, steps_keep}
 use Rattle.stream_format.specs.declared.Class.{Class}
 use Rattle.stream_format.specs.declared.Class.TheVariants.{Unknown, PreferenceRecord, NamedRecord, RunRecord}
-use Rattle.stream_format.specs.declared.ReadAnswer.{ReadAnswer}
+use Rattle.stream_format.specs.ReadAnswer.{ReadAnswer}
 
 -- what stands past the counts of a list is zero
 pub record ZeroPast (l : PreferenceList) : Type 0 where

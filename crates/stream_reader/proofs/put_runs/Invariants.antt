@@ -1,11 +1,8 @@
-use mathlib.Core.Path.{◌≡◌}
-use lib.ListN.{length}
-use Rattle.stream_reader.proofs.Stored.{Stored}
-use Prim.Native.Nat.{◌-◌}
+use Rattle.std.proofs.Common.{◌≡◌, ◌-◌, ◌*◌, drop}
+use Rattle.std.proofs.lemmas.List.Edits.{sets}
+use Rattle.stream_reader.specs.Runs.{run_values}
 use Rattle.stream_reader.proofs.put_runs.Given as goal
 
-abbrev pub invariant-loop-at : goal.invariant-loop-at
-invariant-loop-at l = (l.n ≡ length l.s) × Stored l.s l.initial.log l.log l.at l.to
-
-abbrev pub decreases-loop-at : goal.decreases-loop-at
-decreases-loop-at l = length l.s - l.at
+abbrev pub invariant-loop-row : goal.invariant-loop-row
+invariant-loop-row l =
+    sets l.log (8 * l.row) (run_values (l.rows - l.row) (drop (33 * l.row) l.runs)) ≡ sets l.initial.log 0 (run_values l.rows l.runs)

@@ -7,7 +7,7 @@ use Rattle.std.specs.Int.{w32}
 use Rattle.arith.specs.Laws.Local.{num}
 use Rattle.word.specs.Word.{word_bytes, int_bytes}
 use Rattle.stream_format.specs.Write.{between_bytes, ints_bytes}
-use Rattle.word.specs.Puts.{Puts}
+use Rattle.output.specs.Puts.{Puts}
 
 -- a signed number is held as its bits
 pub puts_int : (v : ℤ) {out last : List ℕ} {at next : ℕ} → mag v < 2147483648 → next ≡ at + 4

@@ -32,7 +32,7 @@ use Rattle.stream_format.specs.Write.{kind_for, constructor_bytes, preference_by
 use Rattle.stream_format.specs.Write.{named_bytes_of, preference_records, row_bytes, stream_of}
 use Rattle.stream_format.specs.Laws.Lengths.{constructor_long, kind_class, named_long, ints_long}
 use Rattle.stream_format.specs.Laws.Read.{Accepts}
-use Rattle.stream_format.specs.declared.ReadAnswer.{ReadAnswer}
+use Rattle.stream_format.specs.ReadAnswer.{ReadAnswer}
 use Rattle.stream_roundtrip.specs.Terms.{LogFits, Fits, ReadsAs}
 use Rattle.preference.specs.Same.{Same}
 use Rattle.stream_roundtrip.specs.Laws.Added.{preference_refusal_same}

@@ -16,9 +16,9 @@ use Rattle.stream_format.specs.Kinds.{kind_of, class_of, body_of}
 use Rattle.stream_format.specs.Read.{out_of_place, figures_refusal, is_unknown, record_refusal, with_record, take_record, goes}
 use Rattle.stream_format.specs.Read.{step, steps, start, records, end_refusal, finish, read_of, values_under, values_from}
 use Rattle.stream_format.specs.Read.{values_of}
-use Rattle.stream_format.specs.Laws.Read.{Accepts, unless_none, steps_ended}
+use Rattle.stream_format.specs.Laws.Read.{Accepts, unless_none, steps_ended, steps_add}
 use Rattle.stream_format.specs.Laws.Values.{values_end}
-use Rattle.stream_format.specs.declared.ReadAnswer.{ReadAnswer}
+use Rattle.stream_format.specs.ReadAnswer.{ReadAnswer}
 
 -- read from the start, the bytes x give r, and the runs among them have the values v
 pub record Reads (x : List ℕ) (v : List ℤ) (r : ReadAnswer) : Type 0 where
@@ -42,15 +42,6 @@ reads_none =
     }
 
 -- ---- one record more
-
-steps_add : (n m : ℕ) (s : List ℕ) (r : ReadAnswer) → steps (n + m) s r ≡ steps m s (steps n s r)
-unfolding steps
-steps_add zero m s r =
-    let e : 0 + m ≡ m = omega arith in
-    rw e
-steps_add (suc n) m s r =
-    let e : suc n + m ≡ suc (n + m) = omega arith in
-    rw e (steps_add n m s (step s r))
 
 accepted_none : (r : ReadAnswer) (bs : List ℕ) → Accepts r bs → record_refusal r bs ≡ 0
 unfolding record_refusal

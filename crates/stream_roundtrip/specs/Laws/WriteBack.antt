@@ -38,7 +38,7 @@ use Rattle.stream_format.specs.Laws.Rows.{refused_stays}
 use Rattle.stream_format.specs.Laws.Accepted.{records_end, read_accepted}
 use Rattle.stream_format.specs.declared.Class.{Class}
 use Rattle.stream_format.specs.declared.Class.TheVariants.{Unknown, PreferenceRecord, NamedRecord, RunRecord}
-use Rattle.stream_format.specs.declared.ReadAnswer.{ReadAnswer}
+use Rattle.stream_format.specs.ReadAnswer.{ReadAnswer}
 use Rattle.stream_roundtrip.specs.Terms.{WritesAs}
 use Rattle.stream_roundtrip.specs.Laws.Added.{preference_new, preference_old, named_new, named_old}
 use Rattle.stream_roundtrip.specs.Laws.Added.{preference_refusal_same}

@@ -1,9 +1,8 @@
-use Prim.Native.Nat.{◌≤◌, ◌<◌, ◌-◌, ◌+◌}
-use lib.ListN.{length}
+use Rattle.std.proofs.Common.{◌≤◌, length}
 use Rattle.test_model_records.proofs.judge.Given as goal
 
-abbrev pub invariant-loop-at : goal.invariant-loop-at
-invariant-loop-at l = (length l.s < 100000000000) × (l.at ≤ length l.s + 33)
+abbrev pub invariant-loop-kind : goal.invariant-loop-kind
+invariant-loop-kind l = length l.rest ≤ length l.stream
 
-abbrev pub decreases-loop-at : goal.decreases-loop-at
-decreases-loop-at l = length l.s - l.at
+abbrev pub decreases-loop-kind : goal.decreases-loop-kind
+decreases-loop-kind l = length l.rest

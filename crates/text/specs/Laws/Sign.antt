@@ -20,3 +20,5 @@ above_sign (negsuc n) e = absurd (subst T e tt)
 
 pub size_gaps : (z : ℤ) → gap z (pos 0) + gap (pos 0) z ≡ nat_abs z
 size_gaps z = sym (gap_abs z (pos 0)) ∙ ap nat_abs (+ℤ_idr z)
+
+pub ruleset signs = (below_sign, above_sign)

@@ -33,6 +33,8 @@ decimal_more (suc n) h =
     (ap (λ (x : List ℕ). x ++ figure (suc n % 10) ∷ [])
     (enough n (suc n / 10) (suc n / 10) (omega arith) (omega arith)))
 
+pub ruleset figures = (decimal_one, decimal_more)
+
 -- k rounds and one are enough for a number below 10 ^ (k + 1)
 pub rounds_enough : (k n : ℕ) → n < 10 ^ suc k → decimal_by k n ≡ decimal n
 unfolding decimal_by

@@ -1,8 +1,8 @@
 -- The entries that a work list holds, and one stored among them.
-use Rattle.std.specs.Prelude.{ℕ, zero, suc, ◌+◌, ◌-◌, ◌*◌, ◌≤◌, ◌<◌, ◌≡◌, refl, List, [], ◌∷◌, ◌++◌, get_or, set, length}
+use Rattle.std.specs.Prelude.{ℕ, zero, suc, ◌+◌, ◌-◌, ◌*◌, ◌≤◌, ◌<◌, ◌≡◌, refl, true, List, [], ◌∷◌, ◌++◌, get_or, set, length}
 use Rattle.std.proofs.Common.{arith, add-one, zero-add, add-zero, ap, ap₂, ◌∙◌, length-set, get_or-set_same, get_or-set_other}
-use Rattle.window_machine.specs.Machine.{Entry, marked}
-use Rattle.window_entries.specs.Entries.{entry_at, entries, put_entry}
+use Rattle.window_machine.specs.Machine.{Entry, keep, marked}
+use Rattle.window_entries.specs.Entries.{entry_at, entries, put_entry, Test, Filtered}
 
 pub length_entries : (l : List ℕ) (i n : ℕ) → length (entries l i n) ≡ n
 unfolding entries
@@ -66,6 +66,17 @@ entries_put l i n r s h =
 pub entries_put0 : (l : List ℕ) (n r s : ℕ) → 2 * n + 1 < length l
     → entries (put_entry l n r s) 0 (n + 1) ≡ entries l 0 n ++ (record { row = r; timestamp = s } ∷ [])
 entries_put0 l n r s h = rw (zero-add n) at (entries_put l 0 n r s (omega arith))
+
+-- a test that takes none out
+pub filtered_none : (p : Test) (l : List ℕ) (n : ℕ) → ((j : ℕ) → j < n → p (entry_at l j) ≡ true) → Filtered p l l n n
+unfolding entries keep
+filtered_none p l n f =
+    record { few = omega arith; long = refl; kept = kept 0 n (λ j a. f j (omega arith)); rest = λ j k. refl }
+  where
+    kept : (i k : ℕ) → ((j : ℕ) → j < i + k → p (entry_at l j) ≡ true) → entries l i k ≡ keep p (entries l i k)
+    kept i zero g = refl
+    kept i (suc k) g =
+        rw (g i (omega arith)) (ap (λ (es : List Entry). entry_at l i ∷ es) (kept (suc i) k (λ j a. g j (omega arith))))
 
 -- ---- the marks that the entries from i on still make
 

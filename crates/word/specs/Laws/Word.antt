@@ -1,10 +1,22 @@
 -- Each of the two codings of a number undoes the other, at both ends of the range too.
-use Rattle.std.specs.Prelude.{ℕ, suc, ◌+◌, ◌*◌, ◌/◌, ◌%◌, ◌<◌, ◌≤◌, ◌≡◌, refl, List, [], ◌∷◌, ◌++◌, ℤ, pos, negsuc, get_or, length, take, drop}
-use Rattle.std.proofs.Common.{arith, sym, ap, ◌∙◌, drop-cons, to_z, of_z, Fits, SFits}
-use Rattle.std.proofs.Math.ListN.{get_or-eq_default}
-use Rattle.std.specs.Int.{w32}
+use Rattle.std.specs.Prelude.{ℕ, ◌+◌, ◌/◌, ◌%◌, ◌<◌, ◌≤◌, ◌≡◌, refl, List, [], ◌∷◌, ◌++◌, ℤ, pos, negsuc, get_or, length, take, drop}
+use Rattle.std.proofs.Common.{arith, sym, ap, ◌∙◌, to_z, of_z, Fits, SFits}
+use Rattle.std.proofs.lemmas.Grind.{common_steps}
+use Rattle.std.specs.Int.{w32, from_le_bytes, to_le_bytes}
+use Rattle.std.specs.Int.Signed.{mag}
 use mir.ValLaws.{to_z-of_z, of_z-to_z, to_z-Fits}
 use Rattle.word.specs.Word.{word, word_at, int_at, word_bytes, int_bytes}
+
+-- ---- the library's words for them
+
+pub word_is : (a b c d : ℕ) → word a b c d ≡ from_le_bytes w32 (a ∷ b ∷ c ∷ d ∷ [])
+word_is a b c d = grind arith
+
+pub word_bytes_is : (n : ℕ) → n < 4294967296 → word_bytes n ≡ to_le_bytes w32 n
+unfolding word_bytes
+word_bytes_is n h = grind arith
+
+-- ---- there and back
 
 -- the number that the bytes of n have
 abbrev again : ℕ → ℕ
@@ -28,13 +40,7 @@ int_of_bytes z rest f = ap (to_z w32) (word_of_bytes (of_z w32 z) rest) ∙ to_z
 -- nothing stands past the end
 pub word_out : (s : List ℕ) (at : ℕ) → length s ≤ at → word_at s at ≡ 0
 unfolding word_at
-word_out s at h =
-    rw (
-      get_or-eq_default s 0 {n = at} h,
-      get_or-eq_default s 0 {n = at + 1} (omega arith),
-      get_or-eq_default s 0 {n = at + 2} (omega arith),
-      get_or-eq_default s 0 {n = at + 3} (omega arith),
-    )
+word_out s at h = grind (arith, common_steps)
 
 -- ---- a list of bytes
 
@@ -44,28 +50,11 @@ Bytes s = (i : ℕ) → get_or s i 0 < 256
 -- four bytes: their number has those bytes
 bytes_of_four : (a b c d : ℕ) → a < 256 → b < 256 → c < 256 → d < 256 → word_bytes (word a b c d) ≡ a ∷ b ∷ c ∷ d ∷ []
 unfolding word_bytes
-bytes_of_four a b c d ha hb hc hd =
-    let q1 : word a b c d / 256 ≡ b + 256 * (c + 256 * d) = omega arith in
-    let q2 : (b + 256 * (c + 256 * d)) / 256 ≡ c + 256 * d = omega arith in
-    let q3 : (c + 256 * d) / 256 ≡ d = omega arith in
-    let e1 : word a b c d % 256 ≡ a = omega arith in
-    let e2 : (b + 256 * (c + 256 * d)) % 256 ≡ b = omega arith in
-    let e3 : (c + 256 * d) % 256 ≡ c = omega arith in
-    rw (e1, q1, e2, q2, e3, q3)
+bytes_of_four a b c d ha hb hc hd = grind arith
 
 pub four_at : (s : List ℕ) (at : ℕ) → at + 4 ≤ length s
     → take 4 (drop at s) ≡ get_or s at 0 ∷ get_or s (at + 1) 0 ∷ get_or s (at + 2) 0 ∷ get_or s (at + 3) 0 ∷ []
-four_at s at h =
-    let e1 : suc at ≡ at + 1 = omega arith in
-    let e2 : suc (suc at) ≡ at + 2 = omega arith in
-    let e3 : suc (suc (suc at)) ≡ at + 3 = omega arith in
-    rw (
-      drop-cons s at 0 (omega arith),
-      drop-cons s (suc at) 0 (omega arith),
-      drop-cons s (suc (suc at)) 0 (omega arith),
-      drop-cons s (suc (suc (suc at))) 0 (omega arith),
-    )
-    (rw (e3, e2, e1) refl)
+four_at s at h = grind (arith, common_steps)
 
 pub word_fits : (s : List ℕ) (at : ℕ) → Bytes s → Fits w32 (word_at s at)
 unfolding word_at
@@ -100,3 +89,7 @@ greatest_bytes = refl
 pub minus_one_bytes : int_bytes (negsuc 0) ≡ 255 ∷ 255 ∷ 255 ∷ 255 ∷ []
 unfolding int_bytes word_bytes
 minus_one_bytes = refl
+
+-- a signed number that is held as its bits
+pub int_held : (z : ℤ) → mag z < 2147483648 → int_bytes (to_z w32 (of_z w32 z)) ≡ int_bytes z
+int_held z f = ap int_bytes (to_z-of_z w32 z (record { sfits = f }))

@@ -1,0 +1,4 @@
+pub mod Puts
+pub mod Prints
+pub mod Writes
+pub mod Stored

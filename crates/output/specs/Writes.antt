@@ -1,0 +1,26 @@
+-- What each method that puts bytes out does to the output.
+use Rattle.std.specs.Prelude.{◌≡◌, ℕ, ◌+◌, cond, List, [], ◌∷◌, ltb, set}
+use Rattle.output.specs.Prints.{output_end}
+use Rattle.output.specs.declared.Output.{Output}
+
+-- what the lent bytes hold, and the place up to which they are written
+pub record Contents : Type 0 where
+  pub bytes : List ℕ
+  pub at : ℕ
+
+abbrev pub contents : Output → Contents
+contents o = record { bytes = o.bytes.now; at = o.at }
+
+-- one byte more, as far as there is room; nothing goes past the last place
+unfoldable pub with_byte : Contents → ℕ → Contents
+with_byte c b = cond (ltb c.at output_end) (record { bytes = set c.bytes c.at b; at = c.at + 1 }) c
+
+-- the bytes x, one after the other
+unfoldable pub with_bytes : Contents → List ℕ → Contents
+with_bytes c [] = c
+with_bytes c (b ∷ x) = with_bytes (with_byte c b) x
+
+-- the bytes x are put out, into the same lent bytes as before
+pub record Writes (before after : Output) (x : List ℕ) : Type 0 where
+  pub same : after.bytes.ghost_name ≡ before.bytes.ghost_name
+  pub holds : contents after ≡ with_bytes (contents before) x

@@ -1,0 +1,74 @@
+// Lent bytes, filled from the front: what the writer of streams and the printers of text put their bytes into.
+#![tactic(auto)]
+
+ghost use Rattle.std.specs.Prelude.{◌≡◌, [], ◌∷◌, take};
+ghost use Rattle.word.specs.Word.{word_bytes, int_bytes};
+ghost use Rattle.output.specs.Writes.{Writes};
+
+/// Lent bytes, and the place up to which they are written. A byte past their end is counted and stored nowhere.
+#[derive(Drop)]
+pub struct Output<'a> {
+    pub bytes: &'a mut [u8],
+    pub at: usize,
+}
+
+// Nothing goes past this place, so that no place can wrap.
+const OUTPUT_END: usize = 4294967296;
+
+impl<'a> Output<'a> {
+    /// Nothing is put out yet.
+    pub fn new(bytes: &'a mut [u8]) -> Output<'a>
+        ensures same { result.bytes.ghost_name ≡ bytes.entry.ghost_name }
+        ensures bytes { result.bytes.now ≡ bytes.old }
+        ensures start { result.at ≡ 0 }
+    {
+        Output { bytes, at: 0 }
+    }
+
+    /// What is put out so far, as far as there is room for it.
+    pub fn written(&self) -> &[u8]
+        ensures { result.now ≡ take self.now.at self.now.bytes.now }
+    {
+        &self.bytes[..self.at.min(self.bytes.len())]
+    }
+
+    #[tactic(auto, using(crate::specs::Laws::Writes::byte_by_byte), unfolding(crate::specs::Writes::with_byte))]
+    pub fn put_byte(&mut self, b: u8)
+        ensures { Writes self.old self.new (b ∷ []) }
+    {
+        if self.at < OUTPUT_END {
+            word::put(self.bytes, self.at, b);
+            self.at += 1;
+        }
+    }
+
+    #[tactic(auto, using(crate::specs::Laws::Writes::writing, crate::specs::Laws::Writes::byte_by_byte))]
+    pub fn put_bytes(&mut self, bytes: &[u8])
+        ensures { Writes self.old self.new bytes.now }
+    {
+        for b in bytes {
+            self.put_byte(*b);
+        }
+    }
+
+    pub fn put_str(&mut self, text: &str)
+        ensures { Writes self.old self.new text.now }
+    {
+        self.put_bytes(text.as_bytes());
+    }
+
+    /// Least byte first.
+    #[tactic(auto, unfolding(word::specs::Word::word_bytes))]
+    pub fn put_u32(&mut self, u: u32)
+        ensures { Writes self.old self.new (word_bytes u) }
+    {
+        self.put_bytes(&u.to_le_bytes());
+    }
+
+    #[tactic(auto, unfolding(word::specs::Word::int_bytes, word::specs::Word::word_bytes))]
+    pub fn put_i32(&mut self, v: i32)
+        ensures { Writes self.old self.new (int_bytes v) }
+    {
+        self.put_bytes(&v.to_le_bytes());
+    }
+}

@@ -1,8 +1,0 @@
-use Prim.Native.Nat.{◌-◌}
-use Rattle.test_support.proofs.nested.beaten.Given as goal
-
-abbrev pub invariant-loop-r : goal.invariant-loop-r
-invariant-loop-r l = Unit {0}
-
-abbrev pub decreases-loop-r : goal.decreases-loop-r
-decreases-loop-r l = l.rows - l.r

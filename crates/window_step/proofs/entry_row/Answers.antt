@@ -1,6 +1,0 @@
-use native.Mathlib.Omega.{arith}
-use Prim.Native.Nat.{◌*◌}
-use Rattle.window_step.proofs.entry_row.Goals as goal
-
-pub overflow_cast-result : goal.overflow_cast-result
-overflow_cast-result c = omega (arith, c.shared_slice_known-1.given (2 * c.args.at))
