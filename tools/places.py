@@ -29,9 +29,27 @@ def line_of(text, at):
     return text.count("\n", 0, at) + 1
 
 
+def past(text, at, opens, closes):
+    """The place behind the bracket that closes the one at `at`; the arrow of a result closes none."""
+    deep = 0
+    while at < len(text):
+        deep += (text[at] == opens) - (text[at] == closes and text[at - 1 : at + 1] != "->")
+        at += 1
+        if not deep:
+            break
+    return at
+
+
 def functions(text):
-    for m in re.finditer(r"\bfn (\w+)(?:<[^>{]*>)?\(([^)]*)\)(?:\s*->\s*([^\n{]+?))?\s*(?=\n|\{)", text):
-        yield m.start(), m.group(1), m.group(2), (m.group(3) or "").strip()
+    for m in re.finditer(r"\bfn (\w+)", text):
+        at = m.end()
+        if text[at : at + 1] == "<":
+            at = past(text, at, "<", ">")
+        if text[at : at + 1] != "(":
+            continue
+        end = past(text, at, "(", ")")
+        result = re.match(r"\s*->\s*([^\n{]+?)\s*(?=\n|\{)", text[end:])
+        yield m.start(), m.group(1), text[at + 1 : end - 1], result.group(1).strip() if result else ""
 
 
 def body(text, at):

@@ -19,7 +19,8 @@ fn signed(answer: Result<u16, Refusal>) -> i32
     }
 }
 
-// The shortlist of a stream, by the lattice engine within a budget of crossings.
+// The shortlist of a stream, by the lattice engine within a budget of crossings. The two calls stand apart:
+// one that is handed the engine would be no shorter.
 fn by_lattice(stream: &[u8], marks: &mut [u8], budget: u32) -> Result<u16, Refusal>
     ensures { Leaves (flat_lattice_call stream.now (length marks.old) budget)
         marks.old (outcome_of result) marks.new }
@@ -35,8 +36,8 @@ fn by_window(stream: &[u8], marks: &mut [u8], w: u32) -> Result<u16, Refusal>
         marks.old (outcome_of result) marks.new }
 {
     let mut numbers = [0; limits::MAX_VALUES];
-    let found = selection::read(stream, &mut numbers)?;
-    selection::by_window(found.list, found.log, marks, w)
+    let held = selection::read(stream, &mut numbers)?;
+    selection::by_window(held.list, held.log, marks, w)
 }
 
 pub fn shortlist_lattice(stream: &[u8], marks: &mut [u8], budget: u32) -> i32

@@ -1,6 +1,6 @@
 -- Document 02, order 2: the side on which a value lies, and the pair of levels of kind 08 (000, Theorem 16; 003,
 -- Table 4).
-use Rattle.std.specs.Prelude.{ℕ, ◌-◌, Bool, true, false, cond, List, [], ◌∷◌, ℤ, get_or}
+use Rattle.std.specs.Prelude.{ℕ, ◌-◌, Bool, true, false, cond, List, [], ◌∷◌, ℤ, get_or, Option, Some, None}
 use Rattle.std.specs.Int.Signed.{le_z}
 use Rattle.constructor.specs.Level.{target_of, max_level}
 use Rattle.constructor.specs.declared.Constructor.{Constructor}
@@ -44,3 +44,12 @@ tops_of c = cond (is_pair c) (max_level c ∷ max_level c ∷ []) (max_level c �
 -- part `half` of a pair, or the level where it is none
 abbrev pub part_in : Bool → ℕ → ℕ → Side → ℕ
 part_in pair half level side = cond pair (get_or (pair_of level side) half 0) level
+
+-- the half that is meant, where a level under a form is a pair
+abbrev pub half_of : Constructor → ℕ → Option ℕ
+half_of c half = cond (is_pair c) (Some half) None
+
+-- that half of a pair, or the level where none is meant: `part_in`, pair and half in one (part_by_in)
+abbrev pub part_by : Option ℕ → ℕ → Side → ℕ
+part_by None level side = level
+part_by (Some half) level side = get_or (pair_of level side) half 0

@@ -3,17 +3,21 @@
 // and the writer takes them.
 #![tactic(auto)]
 
-ghost use Rattle.std.specs.Prelude.{◌≡◌, ◌+◌, get_or};
+ghost use Rattle.std.specs.Prelude.{◌≡◌, ◌+◌, ◌&&◌, ltb, get_or, pos};
+ghost use Rattle.std.specs.Int.Signed.{le_z};
 ghost use Rattle.arith.specs.Gap.{gap};
 ghost use Rattle.arith.specs.Ceil.{ceil_div};
 ghost use Rattle.refusal.specs.Refusal.{refusal_of};
 ghost use Rattle.constructor.specs.Level.{scale_of, target_of, layering_of, numeric_level, max_level, inside};
-ghost use Rattle.constructor.specs.Side.{side_by, side_of, is_pair, pair_of, part_in};
+ghost use Rattle.constructor.specs.Side.{side_by, side_of, is_pair, pair_of, half_of, part_by};
 ghost use Rattle.constructor.specs.Valid.{sound, constructor_refusal, layer_refusal};
+ghost use Rattle.constructor.specs.declared.Constructor.TheVariants.{Lowest};
 
 use refusal::Refusal;
 
-#[derive(Clone, Copy)]
+// The figures of a form stand in its case, as document 01 names them; what forms have in common is told by `scale` and
+// `target`.
+#[derive(Clone, Copy, Debug, PartialEq, Eq)]
 pub enum Constructor {
     Lowest {
         lo: i32,
@@ -52,8 +56,21 @@ pub enum Constructor {
     },
 }
 
+// What stands at a place that the list does not hold: "a zero wish is LOWEST, every figure 0".
+impl Default for Constructor {
+    ghost is_default = { λ c. c ≡ Lowest (pos 0) (pos 0) 0 };
+
+    fn default() -> Constructor {
+        Constructor::Lowest {
+            lo: 0,
+            hi: 0,
+            step: 0,
+        }
+    }
+}
+
 // The values that a form takes, lo to hi, and its step. LAYERED takes every value.
-#[derive(Clone, Copy)]
+#[derive(Clone, Copy, Debug, PartialEq, Eq)]
 pub struct Scale {
     pub lo: i32,
     pub hi: i32,
@@ -61,7 +78,7 @@ pub struct Scale {
 }
 
 // The values at distance 0, low to up: every distance is how far a value lies outside them.
-#[derive(Clone, Copy)]
+#[derive(Clone, Copy, Debug, PartialEq, Eq)]
 pub struct Target {
     pub low: i32,
     pub up: i32,
@@ -76,10 +93,31 @@ pub enum Side {
 }
 
 // What decides a level: the distance, or the layers of named values. An Option's None would not say that distance does.
-#[derive(Clone, Copy)]
+#[derive(Clone, Copy, Debug, PartialEq, Eq)]
 pub enum Layering {
     Numeric,
     Layers { top: u8, others: u8 },
+}
+
+impl Scale {
+    // lo..hi is not empty, and the step is not 0.
+    fn is_sound(self) -> bool
+        ensures { result ≡ (le_z self.lo self.hi && ltb 0 self.step) }
+    {
+        (self.lo <= self.hi) & (0 < self.step)
+    }
+
+    // A target lies in lo..hi and is not empty, and the step is not 0.
+    fn has(self, target: Target) -> bool
+        ensures { result
+            ≡ (le_z self.lo target.low && le_z target.low target.up
+            && le_z target.up self.hi && ltb 0 self.step) }
+    {
+        (self.lo <= target.low)
+            & (target.low <= target.up)
+            & (target.up <= self.hi)
+            & (0 < self.step)
+    }
 }
 
 impl Target {
@@ -104,12 +142,12 @@ impl Target {
         }
     }
 
-    // Part `half` of the level of v, where it is a pair, or the level.
-    pub fn part(self, step: u32, pair: bool, half: usize, v: i32) -> u64
+    // Part `half` of the level of v, which then is a pair, or the level.
+    pub fn part(self, step: u32, half: Option<usize>, v: i32) -> u64
         ensures { result
-            ≡ part_in pair half (ceil_div (gap self.low v + gap v self.up) step) (side_by self.low self.up v) }
+            ≡ part_by half (ceil_div (gap self.low v + gap v self.up) step) (side_by self.low self.up v) }
     {
-        part_in(pair, half, self.level(step, v), self.side(v))
+        part_in(half, self.level(step, v), self.side(v))
     }
 }
 
@@ -191,29 +229,16 @@ impl Constructor {
         (scale.lo <= v) & (v <= scale.hi)
     }
 
-    // No figure of the form is refused by 6. Arms that compare share no or-pattern: the prover states none for those.
-    #[tactic(auto, unfolding(crate::specs::Valid::sound))]
+    // No figure of the form is refused by 6.
+    #[tactic(auto, using(arith::specs::Laws::Gap::le_refl_z), unfolding(crate::specs::Valid::sound))]
     fn is_sound(self) -> bool
         ensures { result ≡ sound self }
     {
         match self {
-            Constructor::Lowest { lo, hi, step } => (lo <= hi) & (0 < step),
-            Constructor::Highest { lo, hi, step } => (lo <= hi) & (0 < step),
-            Constructor::Around { lo, hi, step, z } => (lo <= z) & (z <= hi) & (0 < step),
-            Constructor::Between {
-                lo,
-                hi,
-                step,
-                low,
-                up,
-            } => (lo <= low) & (low <= up) & (up <= hi) & (0 < step),
-            Constructor::BetweenTrivial {
-                lo,
-                hi,
-                step,
-                low,
-                up,
-            } => (lo <= low) & (low <= up) & (up <= hi) & (0 < step),
+            Constructor::Lowest { .. } | Constructor::Highest { .. } => self.scale().is_sound(),
+            Constructor::Around { .. }
+            | Constructor::Between { .. }
+            | Constructor::BetweenTrivial { .. } => self.scale().has(self.target()),
             Constructor::Layered { top, others } => (0 < top)
                 & (top <= limits::MAX_LAYER)
                 & (others <= top),
@@ -260,6 +285,13 @@ impl Constructor {
     {
         matches!(self, Constructor::BetweenTrivial { .. })
     }
+
+    // Which part of a pair is meant by part `half` of a level under the form, where a level is a pair.
+    pub fn half(self, half: usize) -> Option<usize>
+        ensures { result ≡ half_of self half }
+    {
+        self.is_pair().then_some(half)
+    }
 }
 
 // Part `half` of a pair, 0 or 1: 1 is taken off the part of the other side.
@@ -274,13 +306,9 @@ fn pair_part(level: u64, side: Side, half: usize) -> u64
     }
 }
 
-// Part `half` of a level, where it is a pair, or the level.
-pub fn part_in(pair: bool, half: usize, level: u64, side: Side) -> u64
-    ensures { result ≡ part_in pair half level side }
+// Part `half` of a level, which then is a pair, or the level.
+pub fn part_in(half: Option<usize>, level: u64, side: Side) -> u64
+    ensures { result ≡ part_by half level side }
 {
-    if pair {
-        pair_part(level, side, half)
-    } else {
-        level
-    }
+    half.map_or(level, |half| pair_part(level, side, half))
 }

@@ -52,9 +52,7 @@ fn first_in_table(list: PreferenceList, table: &[u16], log: &[i32], row: usize) 
     requires table_value { table.now ≡ table_of list log.now }
     ensures { (none : ℕ) → unwrap_or result none ≡ dominator_or list (log_of log.now) row none }
 {
-    let mut rows = [0; limits::MAX_RUNS];
-    let count = pareto::competing_rows(log, &mut rows);
-    first_dominator(table, &rows[..count], row)
+    first_dominator(table, &pareto::competing_list(log), row)
 }
 
 // Answers with a row of the shortlist that betters the asked one.
@@ -72,8 +70,5 @@ pub fn of(list: PreferenceList, log: &[i32], row: u32) -> Result<u32, Refusal>
         log,
         |table| first_in_table(list, table, log, asked),
     )?;
-    match first {
-        Some(best) => Ok(best as u32),
-        None => Err(Refusal::Shortlisted),
-    }
+    first.map(|best| best as u32).ok_or(Refusal::Shortlisted)
 }

@@ -1,5 +1,6 @@
-// Inside the walk of the lattice engine (000, 6.1): edges crossed on node bytes from one block or row to the next, as
-// far as the budget is enough.
+// Inside the walk of the lattice engine (000, 6.1): edges crossed on node bytes from one block or row to the
+// next, as far as the budget is enough. Nodes, a width and a budget go together and stay apart, since the
+// walk hands on a part of the nodes each time.
 #![tactic(auto)]
 
 ghost use Rattle.std.specs.Prelude.{◌≡◌, ℕ, ◌+◌, ◌<◌, ◌≤◌, not, cond, eqb, count_by, length, get_or};
@@ -12,7 +13,8 @@ use lattice_stretch::{Budget, OverBudget};
 
 // ---- from one block to the next
 
-// How many nodes are reached, and so how many edges lead from them to the nodes of the next block.
+// How many nodes are reached, and so how many edges lead from them to the nodes of the next block. A sum in 32 bits: a
+// `count` of a filter, in 64, takes twice the instructions on 64 nodes.
 fn count_reached(nodes: &[u8]) -> u32
     requires { length nodes.now ≤ max_nodes }
     ensures { result ≡ count_by (λ b. not (eqb b 0)) nodes.now }

@@ -1,6 +1,6 @@
 -- What the loops over rows do: nodes are held, and marks are written.
 use Rattle.std.proofs.Common.{◌≡◌, ℕ, ◌+◌, ◌<◌, List, [], ◌∷◌, sym, ◌∙◌, arith, length, get_or, set, take, ext_get_or}
-use Rattle.std.proofs.lemmas.List.{take_more, set_past}
+use Rattle.std.proofs.lemmas.List.{take_more}
 use Rattle.laws.specs.Laws.Joined.{singles_at, singles_length}
 use Rattle.lattice_nodes.specs.Steps.{updated, held_byte, byte_mark, marked_by}
 use Rattle.lattice_nodes.specs.Laws.Steps.{updated_append}
@@ -10,8 +10,6 @@ pub one_held : (ids nodes : List ℕ) (i : ℕ) → i < length ids
     → updated held_byte (take (i + 1) ids) nodes ≡ set (updated held_byte (take i ids) nodes) (get_or ids i 0) 1
 unfolding updated
 one_held ids nodes i h = rw (take_more ids i 0 h) (updated_append held_byte (take i ids) (get_or ids i 0 ∷ []) nodes)
-
-pub ruleset held = (one_held, set_past)
 
 -- every row's mark
 pub all_marked : (nodes ids marks : List ℕ) → length marks ≡ length ids

@@ -10,15 +10,12 @@ ghost use Rattle.lattice_marks.specs.Settled.{Settles};
 use lattice_stretch::{Budget, OverBudget};
 
 // Marks the node of each row as held. A number past the nodes holds none.
-#[tactic(auto, using(crate::proofs::Rows::held), unfolding(lattice_nodes::specs::Steps::updated))]
+#[tactic(auto, using(crate::proofs::Rows::one_held), unfolding(lattice_nodes::specs::Steps::updated))]
 fn hold(ids: &[u16], nodes: &mut [u8])
     ensures { nodes.new ≡ updated held_byte ids.now nodes.old }
 {
     for id in ids {
-        let node = usize::from(*id);
-        if node < nodes.len() {
-            nodes[node] = 1;
-        }
+        word::put(nodes, usize::from(*id), 1);
     }
 }
 
@@ -30,7 +27,8 @@ fn mark_of(nodes: &[u8], id: u16) -> u8
     u8::from(nodes.get(usize::from(id)).copied().unwrap_or(0) == 1)
 }
 
-// Writes each row's mark.
+// Writes each row's mark. By number: of the marks that a `zip` with `iter_mut` has lent, a proof knows no byte
+// afterwards.
 #[tactic(auto, using(crate::proofs::Rows::all_marked))]
 fn write_marks(ids: &[u16], nodes: &[u8], marks: &mut [u8])
     requires { length marks.old ≡ length ids.now }

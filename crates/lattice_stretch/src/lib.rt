@@ -35,6 +35,9 @@ impl Budget {
 
 // ---- nodes side by side
 
+// Nodes, a width and a budget go together below, and stay apart: the walk hands on a part of the nodes each
+// time, and a struct of them would be made anew at every call.
+
 // A node's byte once an edge to it is crossed.
 #[tactic(auto, unfolding(lattice_nodes::specs::Steps::entered_byte))]
 pub fn enter(b: u8) -> u8
@@ -74,7 +77,7 @@ pub fn cross_stretch(
     Ok(rest)
 }
 
-// The place of the first reached node; their number where there is none.
+// The place of the first reached node; their number where there is none, as in `scan::first_place`.
 pub fn first_reached(nodes: &[u8]) -> usize
     ensures { result ≡ first_reached nodes.now }
 {

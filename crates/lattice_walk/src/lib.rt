@@ -28,7 +28,8 @@ fn cross_whole(
     Ok(budget)
 }
 
-// Walks a block of rows, in which the node at f is the first that is reached.
+// Walks a block of rows, in which the node at f is the first that is reached. By number of the row: an edge leads on to
+// the next row, so a chunk of one row is not all that a step writes.
 fn walk_rows(
     weights: &[usize],
     nodes: &mut [u8],
@@ -49,7 +50,8 @@ fn walk_rows(
 
 // Walks a block over the parts with these weights: sub-block by sub-block of the parts after the first, each before the
 // edges from it are crossed. A block that is reached whole, a row and a block of rows are walked by stretches. Weights
-// and nodes stand apart: a sub-block takes a part of each, so a struct of both would be made anew at every call.
+// and nodes stand apart: a sub-block takes a part of each, so a struct of both would be made anew at every call. Blocks
+// go by number, as rows do above.
 #[tactic(auto, using(lattice_nodes::specs::Laws::FirstReached::first_low))]
 pub fn walk(weights: &[usize], nodes: &mut [u8], mut budget: Budget) -> Result<Budget, OverBudget>
     requires { Small weights.now (length nodes.old) }

@@ -4,7 +4,7 @@
 // rows.
 #![tactic(auto)]
 
-ghost use Rattle.std.specs.Prelude.{◌≡◌, ℕ, ◌*◌, ◌<◌, ◌≤◌, pos, get_or, length, IfOk};
+ghost use Rattle.std.specs.Prelude.{◌≡◌, ℕ, ◌*◌, ◌<◌, ◌≤◌, pos, get_or, length, IfOk, MatchOption};
 ghost use Rattle.std.specs.Fn.{FnOnceTakesAt, FnOnceReturnsAt};
 ghost use Rattle.std.proofs.lemmas.List.Edits.{sets};
 ghost use Rattle.limits.specs.Limits.{columns, max_values};
@@ -13,66 +13,52 @@ ghost use Rattle.run_log.specs.Log.{row_at, row_count, log_refusal};
 ghost use Rattle.level_table.specs.Table.{part_at, is_wide, plane_of, table_length, with_table, table_of};
 ghost use Rattle.level_table.specs.Filled.{with_part, Room, LevelsBy};
 ghost use Rattle.preference.specs.Names.{among};
-ghost use Rattle.level_table.specs.Rule.{rule_of, distance_level};
+ghost use Rattle.preference.specs.Parts.{max_levels};
+ghost use Rattle.level_table.specs.Rule.{RuleOf, level_by, distance_level};
 
 use constructor::{Layering, Target};
 use preference::{Names, PartAt, PreferenceList};
 use refusal::Refusal;
 
-// What decides a part of a level vector: the values of a column, by their distance from a target or by layers; of a
-// pair, which of its parts it is.
+// What decides a part of a level vector: the values of a column, by their distance from a target or by
+// layers; where the levels are pairs, which half it is.
 #[derive(Clone, Copy)]
 struct Rule {
     column: usize,
     target: Target,
     step: u32,
     layering: Layering,
-    pair: bool,
-    half: usize,
+    half: Option<usize>,
 }
 
-impl Rule {
-    // The part that a value gets by its distance, in 16 bits.
-    fn level(self, v: i32) -> u16
-        ensures { result ≡ distance_level self v }
-    {
-        let level = self.target.part(self.step, self.pair, self.half, v);
-        (level % limits::LEVEL_COUNT) as u16
-    }
+// The part that a value gets by its distance, in 16 bits.
+fn level_by(target: Target, step: u32, half: Option<usize>, v: i32) -> u16
+    ensures { result ≡ level_by target step half v }
+{
+    (target.part(step, half, v) % limits::LEVEL_COUNT) as u16
 }
 
 // The layer of a value among names, as a level in 16 bits.
 fn named_layer(names: &Names, v: i32, others: u8) -> u16
     ensures { result ≡ among names.now.values names.now.layers names.now.count v others }
 {
-    u16::from(layers::layer_among(&names.values, &names.layers, names.count, v, others))
+    u16::from(layers::layer_by(names, v, others))
 }
 
-// What decides part k of a level vector. Past the last part the step is 0, and so is every level.
-fn rule_of(list: PreferenceList, k: usize) -> Rule
-    ensures { result ≡ rule_of list k }
+// What decides part k of a level vector; nothing past the last part.
+fn rule_of(list: &PreferenceList, k: usize) -> Option<Rule>
+    ensures { MatchOption result (length (max_levels list.now) ≤ k) (λ r. RuleOf list.now k r) }
 {
-    let PartAt { place, half } = levels::part_at(list, k);
-    if levels::counted_places(list) <= place {
-        return Rule {
-            column: 0,
-            target: Target { low: 0, up: 0 },
-            step: 0,
-            layering: Layering::Numeric,
-            pair: false,
-            half: 0,
-        };
-    }
-    let preference = list.preferences[place];
+    let PartAt { place, half } = levels::part_at(*list, k);
+    let preference = list.counted().get(place)?;
     let form = preference.constructor;
-    Rule {
+    Some(Rule {
         column: usize::from(preference.column),
         target: form.target(),
         step: form.scale().step,
         layering: form.layering(),
-        pair: form.is_pair(),
-        half,
-    }
+        half: form.half(half),
+    })
 }
 
 // The value at a column of row r; 0 where the row has none.
@@ -82,7 +68,9 @@ fn value_at(log: &[i32], r: usize, column: usize) -> i32
     run_log::row(log, r).get(column).copied().unwrap_or(0)
 }
 
-// Sets a column of a table, eight places to a row, to what `level_of` makes of the values in a column of a log.
+// Sets a column of a table, eight places to a row, to what `level_of` makes of the values in a column of a
+// log. Log, column and table go through this and the two functions below, which end in this loop: a struct of
+// the three would be taken apart again in it.
 fn fill_column<F: Fn(i32) -> u16>(
     log: &[i32],
     column: usize,
@@ -100,16 +88,42 @@ fn fill_column<F: Fn(i32) -> u16>(
     }
 }
 
-// Sets a column of a table, eight places to a row, to part k of the level vectors of a log, in 16 bits.
-fn fill_part(list: PreferenceList, log: &[i32], k: usize, into: usize, table: &mut [u16])
+// Sets a column of a table to the levels of a rule by distance. A function of its own: a closure in
+// `fill_part` asks again at each row what the rule says, and a table takes half as many instructions more.
+fn fill_distances(rule: Rule, log: &[i32], into: usize, table: &mut [u16])
     requires { Room log.now table.old into }
-    ensures { table.new ≡ with_part (part_at list log.now k) into (row_count log.now) table.old }
+    ensures { (f : ℕ → ℕ) → LevelsBy (λ v x. x ≡ distance_level rule v) log.now rule.column f
+        → table.new ≡ with_part f into (row_count log.now) table.old }
 {
-    let rule = rule_of(list, k);
+    let Rule {
+        column,
+        target,
+        step,
+        half,
+        ..
+    } = rule;
+    fill_column(
+        log,
+        column,
+        |v| level_by(target, step, half, v),
+        into,
+        table,
+    )
+}
+
+// Sets a column of a table, eight places to a row, to part k of the level vectors of a log, in 16 bits; to 0
+// past the last part.
+fn fill_part(list: &PreferenceList, log: &[i32], k: usize, into: usize, table: &mut [u16])
+    requires { Room log.now table.old into }
+    ensures { table.new ≡ with_part (part_at list.now log.now k) into (row_count log.now) table.old }
+{
+    let Some(rule) = rule_of(list, k) else {
+        return fill_column(log, 0, |_| 0, into, table);
+    };
     match rule.layering {
-        Layering::Numeric => fill_column(log, rule.column, |v| rule.level(v), into, table),
+        Layering::Numeric => fill_distances(rule, log, into, table),
         Layering::Layers { others, .. } => {
-            let names = layers::names_of(list, levels::part_at(list, k).place);
+            let names = layers::names_of(*list, levels::part_at(*list, k).place);
             let layer_of = |v| named_layer(&names, v, others);
             fill_column(log, rule.column, layer_of, into, table)
         }
@@ -141,9 +155,9 @@ fn is_wide(list: PreferenceList) -> bool
 }
 
 // Fills the front of a table with eight parts of the level vectors of a log, from part `first` on.
-fn fill_plane(list: PreferenceList, log: &[i32], first: usize, table: &mut [u16])
+fn fill_plane(list: &PreferenceList, log: &[i32], first: usize, table: &mut [u16])
     requires { (first ≤ columns) × (columns * row_count log.now ≤ length table.old) }
-    ensures { table.new ≡ sets table.old 0 (plane_of list log.now first) }
+    ensures { table.new ≡ sets table.old 0 (plane_of list.now log.now first) }
 {
     for k in 0..limits::COLUMNS {
         fill_part(list, log, first + k, k, table);
@@ -157,9 +171,14 @@ pub fn fill_table(list: PreferenceList, log: &[i32], table: &mut [u16])
     if table.len() < table_length(list, log) {
         return;
     }
-    fill_plane(list, log, 0, table);
+    fill_plane(&list, log, 0, table);
     if is_wide(list) {
-        fill_plane(list, log, limits::COLUMNS, &mut table[limits::MAX_VALUES..]);
+        fill_plane(
+            &list,
+            log,
+            limits::COLUMNS,
+            &mut table[limits::MAX_VALUES..],
+        );
     }
 }
 

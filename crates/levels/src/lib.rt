@@ -9,46 +9,26 @@ ghost use Rattle.laws.specs.Outcome.{outcome};
 ghost use Rattle.refusal.specs.Refusal.{refusal_of, outcome_of};
 ghost use Rattle.constructor.specs.Level.{inside};
 ghost use Rattle.constructor.specs.Side.{tops_of};
-ghost use Rattle.preference.specs.List.{preference_at, places};
-ghost use Rattle.preference.specs.Level.{level_at, side_at, told_at, value_refusal, level_refusal};
+ghost use Rattle.preference.specs.List.{constructor_at};
+ghost use Rattle.preference.specs.Level.{level_at, told_at, value_refusal, level_refusal};
 ghost use Rattle.preference.specs.Parts.{row_value, levels, max_levels, part_of, row_refusal};
 
-use constructor::{Constructor, Layering, Side};
+use constructor::{Constructor, Layering};
 use preference::{PartAt, Preference, PreferenceList, Told};
 use refusal::Refusal;
 
 // ---- the level of a value
 
-// The form at place i; LOWEST with every figure 0 past the eighth.
-fn constructor_at(list: PreferenceList, i: usize) -> Constructor
-    ensures { result ≡ (preference_at list i).constructor }
-{
-    let Some(preference) = list.preferences.get(i) else {
-        return Constructor::Lowest {
-            lo: 0,
-            hi: 0,
-            step: 0,
-        };
-    };
-    preference.constructor
-}
-
-fn level_at(list: PreferenceList, i: usize, v: i32) -> u64
+// The level of v under the form of the preference at place i.
+#[tactic(auto, unfolding(preference::specs::Level::level_at))]
+fn level_at(list: PreferenceList, i: usize, form: Constructor, v: i32) -> u64
+    requires { form ≡ constructor_at list i }
     ensures { result ≡ level_at list i v }
 {
-    let form = constructor_at(list, i);
     match form.layering() {
         Layering::Numeric => form.level(v),
         Layering::Layers { others, .. } => u64::from(layers::layer_of(list, i, v, others)),
     }
-}
-
-// The side of v under the preference at place i.
-#[tactic(auto, unfolding(preference::specs::Level::side_at))]
-fn side_at(list: PreferenceList, i: usize, v: i32) -> Side
-    ensures { result ≡ side_at list i v }
-{
-    constructor_at(list, i).side(v)
 }
 
 // 8 where v lies outside the bounds of a form.
@@ -62,14 +42,6 @@ fn check_inside(form: Constructor, v: i32) -> Result<(), Refusal>
     Ok(())
 }
 
-// 8 where v lies outside the bounds of the preference at place i.
-#[tactic(auto, unfolding(preference::specs::Level::value_refusal))]
-fn check_value(list: PreferenceList, i: usize, v: i32) -> Result<(), Refusal>
-    ensures { refusal_of result ≡ value_refusal list i v }
-{
-    check_inside(constructor_at(list, i), v)
-}
-
 // The level of a value under the preference at a place, and its side.
 pub fn level(list: PreferenceList, place: u32, value: i32) -> Result<Told, Refusal>
     ensures { outcome_of result ≡ outcome (level_refusal list place value) (told_at list place value) }
@@ -79,21 +51,15 @@ pub fn level(list: PreferenceList, place: u32, value: i32) -> Result<Told, Refus
         return Err(Refusal::NoRoom);
     }
     let i = place as usize;
-    check_value(list, i, value)?;
+    let form = list.constructor_at(i);
+    check_inside(form, value)?;
     Ok(Told {
-        level: level_at(list, i, value) as u32,
-        side: side_at(list, i, value),
+        level: level_at(list, i, form, value) as u32,
+        side: form.side(value),
     })
 }
 
 // ---- the level vector of a run
-
-// The number of the preferences that a list holds.
-pub fn counted_places(list: PreferenceList) -> usize
-    ensures { result ≡ places list }
-{
-    (list.count as usize).min(limits::MAX_WISHES)
-}
 
 // The value of a run in the column of a preference; 0 past the run's end.
 fn run_value(preference: Preference, row: &[i32]) -> i32
@@ -112,25 +78,26 @@ fn form_parts(form: Constructor) -> usize
     if form.is_pair() { 2 } else { 1 }
 }
 
-// The number of the parts of every level vector.
+// The number of the parts of every level vector. A loop: the search leaves both goals of a sum over a map
+// open, and their proofs are longer than the loop's.
 pub fn parts(list: PreferenceList) -> usize
     ensures { result ≡ length (max_levels list) }
 {
     let mut total = 0;
-    for preference in &list.preferences[..counted_places(list)] {
+    for preference in list.counted() {
         total += form_parts(preference.constructor);
     }
     total
 }
 
-// The preference that part k of the level vectors belongs to, and which of its parts it is.
+// The preference that part k of the level vectors belongs to, and which of its parts it is. An Option would
+// say no more: past the last part the list holds no such place, so `list.counted().get(place)` is the Option.
 pub fn part_at(list: PreferenceList, k: usize) -> PartAt
     ensures { result ≡ part_of list k }
 {
-    let count = counted_places(list);
     let mut before = 0;
-    for place in 0..count {
-        let with = before + form_parts(list.preferences[place].constructor);
+    for (place, preference) in list.counted().iter().enumerate() {
+        let with = before + form_parts(preference.constructor);
         if k < with {
             return PartAt {
                 place,
@@ -140,7 +107,7 @@ pub fn part_at(list: PreferenceList, k: usize) -> PartAt
         before = with;
     }
     PartAt {
-        place: count,
+        place: list.counted().len(),
         half: k - before,
     }
 }
@@ -150,16 +117,15 @@ pub fn part_level(list: PreferenceList, row: &[i32], k: usize) -> u64
     ensures { result ≡ get_or (levels list row.now) k 0 }
 {
     let PartAt { place, half } = part_at(list, k);
-    if counted_places(list) <= place {
+    let Some(preference) = list.counted().get(place) else {
         return 0;
-    }
-    let preference = list.preferences[place];
-    let v = run_value(preference, row);
+    };
+    let form = preference.constructor;
+    let v = run_value(*preference, row);
     constructor::part_in(
-        preference.constructor.is_pair(),
-        half,
-        level_at(list, place, v),
-        side_at(list, place, v),
+        form.half(half),
+        level_at(list, place, form, v),
+        form.side(v),
     )
 }
 
@@ -167,11 +133,10 @@ pub fn part_level(list: PreferenceList, row: &[i32], k: usize) -> u64
 pub fn part_max(list: PreferenceList, k: usize) -> u64
     ensures { result ≡ get_or (max_levels list) k 0 }
 {
-    let place = part_at(list, k).place;
-    if counted_places(list) <= place {
+    let Some(preference) = list.counted().get(part_at(list, k).place) else {
         return 0;
-    }
-    constructor_at(list, place).max_level()
+    };
+    preference.constructor.max_level()
 }
 
 // 8 where the run's value lies outside the bounds of the preference at place i.
@@ -186,8 +151,8 @@ fn check_place(list: &PreferenceList, row: &[i32], i: usize) -> Result<(), Refus
 
 // 8 where a value of the run lies outside the bounds of its preference.
 #[tactic(auto, unfolding(preference::specs::Parts::row_refusal))]
-pub fn check_row(list: PreferenceList, row: &[i32]) -> Result<(), Refusal>
-    ensures { refusal_of result ≡ row_refusal list row.now }
+pub fn check_row(list: &PreferenceList, row: &[i32]) -> Result<(), Refusal>
+    ensures { refusal_of result ≡ row_refusal list.now row.now }
 {
-    refusal::check_each(counted_places(list), |i| check_place(&list, row, i))
+    refusal::check_each(list.counted().len(), |i| check_place(list, row, i))
 }

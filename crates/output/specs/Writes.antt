@@ -1,19 +1,19 @@
 -- What each method that puts bytes out does to the output.
 use Rattle.std.specs.Prelude.{◌≡◌, ℕ, ◌+◌, cond, List, [], ◌∷◌, ltb, set}
-use Rattle.output.specs.Prints.{output_end}
 use Rattle.output.specs.declared.Output.{Output}
 
--- what the lent bytes hold, and the place up to which they are written
+-- what the lent bytes hold, the place up to which they are written, and the one that nothing goes past
 pub record Contents : Type 0 where
   pub bytes : List ℕ
   pub at : ℕ
+  pub limit : ℕ
 
 abbrev pub contents : Output → Contents
-contents o = record { bytes = o.bytes.now; at = o.at }
+contents o = record { bytes = o.bytes.now; at = o.at; limit = o.limit }
 
--- one byte more, as far as there is room; nothing goes past the last place
+-- one byte more, as far as there is room; nothing goes past the limit
 unfoldable pub with_byte : Contents → ℕ → Contents
-with_byte c b = cond (ltb c.at output_end) (record { bytes = set c.bytes c.at b; at = c.at + 1 }) c
+with_byte c b = cond (ltb c.at c.limit) (record { bytes = set c.bytes c.at b; at = c.at + 1; limit = c.limit }) c
 
 -- the bytes x, one after the other
 unfoldable pub with_bytes : Contents → List ℕ → Contents

@@ -1,28 +1,51 @@
 // Lent bytes, filled from the front: what the writer of streams and the printers of text put their bytes into.
 #![tactic(auto)]
 
-ghost use Rattle.std.specs.Prelude.{◌≡◌, [], ◌∷◌, take};
+ghost use Rattle.std.specs.Prelude.{◌≡◌, ◌+◌, [], ◌∷◌, take};
+ghost use Rattle.limits.specs.Limits.{usize_end};
 ghost use Rattle.word.specs.Word.{word_bytes, int_bytes};
+ghost use Rattle.output.specs.Prints.{output_end};
 ghost use Rattle.output.specs.Writes.{Writes};
 
-/// Lent bytes, and the place up to which they are written. A byte past their end is counted and stored nowhere.
+/// Lent bytes, and the place up to which they are written. A byte past their end is counted and stored nowhere, and
+/// nothing goes past the limit, so that no place can wrap. A writer of its own: by what it counts past their end a
+/// stream's length is made out, and the product takes no memory for a `Vec` to write to.
 #[derive(Drop)]
 pub struct Output<'a> {
     pub bytes: &'a mut [u8],
     pub at: usize,
+    pub limit: usize,
 }
 
-// Nothing goes past this place, so that no place can wrap.
+// The place that no text goes past.
 const OUTPUT_END: usize = 4294967296;
 
 impl<'a> Output<'a> {
-    /// Nothing is put out yet.
+    /// For a text, of which nothing is put out yet.
     pub fn new(bytes: &'a mut [u8]) -> Output<'a>
         ensures same { result.bytes.ghost_name ≡ bytes.entry.ghost_name }
         ensures bytes { result.bytes.now ≡ bytes.old }
         ensures start { result.at ≡ 0 }
+        ensures limit { result.limit ≡ output_end }
     {
-        Output { bytes, at: 0 }
+        Output {
+            bytes,
+            at: 0,
+            limit: OUTPUT_END,
+        }
+    }
+
+    /// For records: they may stand at every place.
+    pub fn for_records(bytes: &'a mut [u8]) -> Output<'a>
+        ensures same { result.bytes.ghost_name ≡ bytes.entry.ghost_name }
+        ensures bytes { result.bytes.now ≡ bytes.old }
+        ensures start { result.at ≡ 0 }
+        ensures limit { result.limit + 1 ≡ usize_end }
+    {
+        Output {
+            limit: usize::MAX,
+            ..Output::new(bytes)
+        }
     }
 
     /// What is put out so far, as far as there is room for it.
@@ -36,7 +59,7 @@ impl<'a> Output<'a> {
     pub fn put_byte(&mut self, b: u8)
         ensures { Writes self.old self.new (b ∷ []) }
     {
-        if self.at < OUTPUT_END {
+        if self.at < self.limit {
             word::put(self.bytes, self.at, b);
             self.at += 1;
         }

@@ -47,7 +47,8 @@ impl Lower {
     }
 }
 
-// Two rows of a table that begin at p and q. One look at each level tells both ways.
+// Two rows of a table that begin at p and q. One look at each level tells both ways. By number: a `zip` of two slices
+// does not tell a proof at which place of the table a pair stands, and what it leaves was not proved.
 #[tactic(auto, using(crate::proofs::Looks::none_below, laws::specs::Laws::First::any_more))]
 fn rows_compared(table: &[u16], p: usize, q: usize) -> Lower
     requires { (p + columns ≤ length table.now) × (q + columns ≤ length table.now) }
@@ -71,8 +72,10 @@ pub fn is_double(table: &[u16]) -> bool
     limits::MAX_VALUES < table.len()
 }
 
-// Which of rows a and b of a table of one plane has a level below the other's; a row that the table has not has none.
-// It knows of no second plane, so that a loop of such looks pays for none.
+// Which of rows a and b of a table of one plane has a level below the other's; a row that the table has not
+// has none. It knows of no second plane, so that a loop of such looks pays for none: with a test for one in
+// each compare, calls of windows of 64 and 1,024 entries took 1.16 to 1.20 of the instructions from before
+// it, in place of 1.00 to 1.08.
 pub fn plane_levels(table: &[u16], a: usize, b: usize) -> Lower
     ensures { Looked (plane_lower table.now) a b result }
 {

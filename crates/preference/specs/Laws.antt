@@ -1,3 +1,4 @@
+pub mod Held
 pub mod Valid
 pub mod Level
 pub mod Parts

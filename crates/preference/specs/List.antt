@@ -1,6 +1,6 @@
 -- The preference list (document 01: the wish list "holds its eight places and 64 named values by value"), read place by
 -- place.
-use Rattle.std.specs.Prelude.{ℕ, min, pos, get_or}
+use Rattle.std.specs.Prelude.{ℕ, min, List, pos, get_or, take}
 use Rattle.limits.specs.Limits.{max_wishes, max_named}
 use Rattle.constructor.specs.declared.Constructor.{Constructor}
 use Rattle.constructor.specs.declared.Constructor.TheVariants.{Lowest}
@@ -31,3 +31,10 @@ places l = min l.count max_wishes
 
 abbrev pub named_places : PreferenceList → ℕ
 named_places l = min l.namedcount max_named
+
+-- "places past the counts .. are no part of the list": the preferences and the named values that it holds
+abbrev pub counted : PreferenceList → List Preference
+counted l = take (places l) l.preferences
+
+abbrev pub counted_names : PreferenceList → List Named
+counted_names l = take (named_places l) l.named

@@ -2,9 +2,10 @@
 // answer.
 #![tactic(auto)]
 
-ghost use Rattle.std.specs.Prelude.{◌≡◌, ◌<◌, ◌≤◌};
+ghost use Rattle.std.specs.Prelude.{◌≡◌, ◌<◌, ◌≤◌, length};
 ghost use Rattle.limits.specs.Limits.{max_wishes, max_named};
 ghost use Rattle.refusal.specs.Refusal.{refusal_of};
+ghost use Rattle.preference.specs.List.{places, named_places, counted, counted_names, constructor_at};
 ghost use Rattle.preference.specs.Valid.{taken, column_refusal, preference_refusal, place_refusal, named_refusal};
 ghost use Rattle.preference.specs.Valid.{list_refusal};
 
@@ -12,22 +13,23 @@ use constructor::{Constructor, Side};
 use refusal::Refusal;
 
 // A wish: the column that it is about, and its form.
-#[derive(Clone, Copy)]
+#[derive(Clone, Copy, Debug, Default, PartialEq, Eq)]
 pub struct Preference {
     pub column: u8,
     pub constructor: Constructor,
 }
 
 // A named value: the place of its preference, the value, and its layer.
-#[derive(Clone, Copy)]
+#[derive(Clone, Copy, Debug, Default, PartialEq, Eq)]
 pub struct Named {
     pub preference: u8,
     pub value: i32,
     pub layer: u8,
 }
 
-// The first `count` preferences and the first `namedcount` named values are the list; what stands past them is no
-// part of it. The fields are wide enough to hold figures that are refused.
+// The first `count` preferences and the first `namedcount` named values are the list. What stands past them
+// is no part of it, so no equality is derived: it would compare too much. The fields hold refused figures too. Arrays
+// with their counts: the form that document 01 names.
 #[derive(Clone, Copy)]
 pub struct PreferenceList {
     pub count: u32,
@@ -41,14 +43,44 @@ pub const MAX_COUNT: u32 = limits::MAX_WISHES as u32;
 
 pub const MAX_NAMED_COUNT: u32 = limits::MAX_NAMED as u32;
 
+impl PreferenceList {
+    // The preferences that the list holds.
+    pub fn counted(&self) -> &[Preference]
+        ensures held { result.now ≡ counted self.now }
+        ensures places { length result.now ≡ places self.now }
+    {
+        &self.preferences[..(self.count as usize).min(limits::MAX_WISHES)]
+    }
+
+    // The named values that the list holds.
+    pub fn counted_names(&self) -> &[Named]
+        ensures held { result.now ≡ counted_names self.now }
+        ensures places { length result.now ≡ named_places self.now }
+    {
+        &self.named[..(self.namedcount as usize).min(limits::MAX_NAMED)]
+    }
+
+    // The form at place i, whatever the list counts; LOWEST with every figure 0 past the eighth.
+    pub fn constructor_at(&self, i: usize) -> Constructor
+        ensures { result ≡ constructor_at self.now i }
+    {
+        self.preferences
+            .get(i)
+            .copied()
+            .unwrap_or_default()
+            .constructor
+    }
+}
+
 // What the level call tells of a value.
-#[derive(Clone, Copy)]
+#[derive(Clone, Copy, Debug, PartialEq, Eq)]
 pub struct Told {
     pub level: u32,
     pub side: Side,
 }
 
-// The named values of one preference, in the list's order: the first `count` places.
+// The named values of one preference, in the list's order: the first `count` places. What stands past them
+// is no part of it: no equality is derived. Values and layers stand apart: sixteen values are tried at once.
 #[derive(Clone, Copy)]
 pub struct Names {
     pub count: usize,
@@ -57,7 +89,7 @@ pub struct Names {
 }
 
 // Where a part of the level vectors is found: the place of its preference, and which of the preference's parts it is.
-#[derive(Clone, Copy)]
+#[derive(Clone, Copy, Debug, PartialEq, Eq)]
 pub struct PartAt {
     pub place: usize,
     pub half: usize,

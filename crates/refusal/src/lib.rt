@@ -34,6 +34,15 @@ impl From<Refusal> for u8 {
     }
 }
 
+// The number as it is printed.
+impl From<Refusal> for u64 {
+    ghost from_gives = { λ r n. n ≡ number r };
+
+    fn from(refusal: Refusal) -> u64 {
+        refusal as u64
+    }
+}
+
 // The first refusal that a check gives for places 0 to n - 1.
 pub fn check_each<F: Fn(usize) -> Result<(), Refusal>>(n: usize, check: F) -> Result<(), Refusal>
     requires { (i : ℕ) → i < n → F.pre check i }

@@ -24,7 +24,7 @@ fn put_selected(out: &mut Output<'_>, list: PreferenceList, log: &[i32])
             report_lines::put_head(out, rows as u64, u64::from(best));
             report_lines::put_lines(out, log, &marks);
         }
-        Err(refusal) => report_lines::put_refused(out, u64::from(u8::from(refusal))),
+        Err(refusal) => report_lines::put_refused(out, u64::from(refusal)),
     }
 }
 
@@ -36,7 +36,7 @@ fn put_report(out: &mut Output<'_>, stream: &[u8])
     let mut numbers = [0; limits::MAX_VALUES];
     match selection::read(stream, &mut numbers) {
         Ok(held) => put_selected(out, held.list, held.log),
-        Err(unread) => report_lines::put_refused(out, u64::from(u8::from(unread))),
+        Err(unread) => report_lines::put_refused(out, u64::from(unread)),
     }
 }
 

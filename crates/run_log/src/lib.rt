@@ -17,22 +17,17 @@ pub fn row_count(log: &[i32]) -> usize
     log.len() / limits::COLUMNS
 }
 
-// Row r as a part of the log: what the log has of it, and nothing past the log's end.
+// Row r as a part of the log: what the log has of it, and nothing past the log's end. A whole row by a branch of its
+// own: with `min` at both ends a loop over rows takes half as many instructions more, and `chunks(..).nth(r)` r steps.
 pub fn row(log: &[i32], r: usize) -> &[i32]
     ensures { result.now ≡ row_at log.now r }
 {
-    let rows = log.len() / limits::COLUMNS;
-    if r < rows {
+    if r < row_count(log) {
         let start = limits::COLUMNS * r;
         let end = start + limits::COLUMNS;
         return &log[start..end];
     }
-    let end = log.len();
-    if rows < r {
-        return &log[end..end];
-    }
-    let start = limits::COLUMNS * r;
-    &log[start..end]
+    &log[limits::COLUMNS.saturating_mul(r).min(log.len())..]
 }
 
 // ---- checks

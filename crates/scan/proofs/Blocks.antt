@@ -3,19 +3,7 @@ use Rattle.std.proofs.Common.{◌≡◌, ℕ, ◌+◌, ◌-◌, ◌<◌, ◌≤�
 use Rattle.std.proofs.Math.ListN.{get_or-append}
 use Rattle.std.proofs.lemmas.List.{drop_at, drop-drop, get_or-drop}
 use Rattle.std.proofs.lemmas.Bool.{cases_lt}
-use Rattle.std.proofs.lemmas.List.Edits.{get_or-between}
-use Rattle.std.specs.List.{AllWithin, between}
-
--- what holds of the elements in front, and of the first m of what is left
-pub within_both : {T : Type 0} (P : T → Type 0) (xs : List T) (front m : ℕ) → front + m ≤ length xs → AllWithin P xs 0 front
-    → AllWithin P (between front (length xs) xs) 0 m → AllWithin P xs 0 (front + m)
-within_both P xs front m fits before later k d z h =
-    ⊎_elim (λ l. before k d z l)
-    (λ l.
-    let there : front + (k - front) ≡ k = omega arith in
-    subst P (get_or-between xs front (length xs) (k - front) d (omega arith) ∙ ap (λ i. get_or xs i d) there)
-    (later (k - front) d (omega arith) (omega arith)))
-    (cases_lt k front)
+use Rattle.std.specs.List.{AllWithin}
 
 -- the block of n elements after those in front, and what is left
 module _ {T : Type 0} (xs : List T) (front n : ℕ) (block rest : List T) (within : front ≤ length xs)

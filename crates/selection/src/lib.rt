@@ -33,13 +33,11 @@ pub fn read<'a>(
     ensures held { IfOk result
         (λ held. (held.list ≡ list_in stream.now) × (held.log.now ≡ (log_in stream.now).values)) }
 {
-    match stream_reader::read(stream, numbers) {
-        Ok(read) => Ok(Held {
-            list: read.list,
-            log: &numbers[..limits::COLUMNS * read.rows],
-        }),
-        Err(unread) => Err(unread.refusal),
-    }
+    let read = stream_reader::read(stream, numbers)?;
+    Ok(Held {
+        list: read.list,
+        log: &numbers[..limits::COLUMNS * read.rows],
+    })
 }
 
 // ---- by one engine or the other
@@ -59,7 +57,8 @@ fn count_marked(marks: &[u8], log: &[i32]) -> u16
     count_ones(marks, run_log::row_count(log)) as u16
 }
 
-// By the lattice engine, within a budget of crossings.
+// By the lattice engine, within a budget of crossings. The two calls stand apart, of three lines each: their
+// work spaces are of two types, and one that is handed the engine would be no shorter.
 pub fn by_lattice(
     list: PreferenceList,
     log: &[i32],

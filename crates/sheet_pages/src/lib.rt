@@ -29,7 +29,7 @@ fn page_count(s: usize) -> usize
     s.div_ceil(PAGE_RUNS).max(1)
 }
 
-// Page p, pages counted from 0.
+// Page p, pages counted from 0. Cut by its place: `chunks(..).nth(p)` would take p steps.
 #[tactic(auto, using(crate::proofs::Rules::pages))]
 fn put_page(out: &mut Output<'_>, log: &[i32], rows: &[usize], p: usize)
     requires { page_runs * p ≤ length rows.now }

@@ -48,7 +48,7 @@ fn print_refused(refusal: Refusal, out: &mut [u8]) -> usize
     ensures { Prints out.old out.new 0 result (refused_text (number refusal)) }
 {
     let mut text = Output::new(out);
-    report_lines::put_refused(&mut text, u64::from(u8::from(refusal)));
+    report_lines::put_refused(&mut text, u64::from(refusal));
     text.at
 }
 

@@ -1,8 +1,17 @@
 -- Document 01, "Runs and records": the table of kinds, and the kind that document 02 adds.
 use Rattle.std.specs.Prelude.{ℕ, List, [], ◌∷◌, get_or}
-use Rattle.stream_format.specs.declared.Class.{Class}
-use Rattle.stream_format.specs.declared.Class.TheVariants.{Unknown, PreferenceRecord, NamedRecord, RunRecord}
-use Rattle.stream_format.specs.declared.Kind.{Kind}
+
+-- what a record says; the table has a row for kind 00, which no record has
+pub data Class : Type 0 where
+  Unknown : Class
+  PreferenceRecord : Class
+  NamedRecord : Class
+  RunRecord : Class
+
+-- what the kind byte of a record fixes: its class and the bytes of its body
+pub record Kind : Type 0 where
+  pub class : Class
+  pub body : ℕ
 
 -- "07 RUN | eight values | 32"
 abbrev pub run_body : ℕ

@@ -3,6 +3,7 @@ pub mod Pigeons
 pub mod Columns
 pub mod Lengths
 pub mod Read
+pub mod RecordKind
 pub mod Values
 pub mod Accepted
 pub mod Rows

@@ -1,4 +1,5 @@
 pub mod Kinds
+pub mod RecordKind
 pub mod ReadAnswer
 pub mod Read
 pub mod Midway

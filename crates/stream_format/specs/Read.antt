@@ -18,8 +18,8 @@ use Rattle.preference.specs.declared.Named.{Named}
 use Rattle.preference.specs.declared.PreferenceList.{PreferenceList}
 use Rattle.refusal.specs.Refusal.{number}
 use Rattle.stream_format.specs.Kinds.{kind_byte, class_of, body_of}
-use Rattle.stream_format.specs.declared.Class.{Class}
-use Rattle.stream_format.specs.declared.Class.TheVariants.{Unknown, PreferenceRecord, NamedRecord, RunRecord}
+use Rattle.stream_format.specs.Kinds.{Class}
+use Rattle.stream_format.specs.Kinds.{Unknown, PreferenceRecord, NamedRecord, RunRecord}
 use Rattle.stream_format.specs.ReadAnswer.{ReadAnswer}
 use Rattle.stream_format.specs.declared.StreamRead.{StreamRead}
 use Rattle.stream_format.specs.declared.ReadRefusal.{ReadRefusal}

@@ -1,25 +1,99 @@
 // The format of streams: what reading and writing mean. The definitions stand in specs/, their laws in specs/Laws/;
-// here are the types that both speak of. There is no code here.
+// here are the types that both speak of.
 #![tactic(auto)]
 
+ghost use Rattle.std.specs.Prelude.{◌≡◌, ◌≤◌};
+ghost use Rattle.stream_format.specs.Kinds.{run_body};
+ghost use Rattle.stream_format.specs.RecordKind.{kind_number, row_of, read_as};
+
+use constructor::Constructor;
 use preference::PreferenceList;
 use refusal::Refusal;
 
-// What a record says.
+// The kind of a record, each with its byte.
 #[derive(Clone, Copy, Debug, PartialEq, Eq)]
-pub enum Class {
-    // No None of an Option: the table of kinds has a row for it, kind 00.
-    Unknown,
-    PreferenceRecord,
-    NamedRecord,
-    RunRecord,
+pub enum RecordKind {
+    Lowest = 1,
+    Highest = 2,
+    Around = 3,
+    Between = 4,
+    Layered = 5,
+    Named = 6,
+    Run = 7,
+    BetweenTrivial = 8,
 }
 
-// What the kind byte of a record fixes: its class and the bytes of its body.
-#[derive(Clone, Copy)]
-pub struct Kind {
-    pub class: Class,
-    pub body: usize,
+impl From<RecordKind> for u8 {
+    ghost from_gives = { λ kind n. n ≡ kind_number kind };
+
+    fn from(kind: RecordKind) -> u8 {
+        kind as u8
+    }
+}
+
+// 2 for a byte that is no kind's.
+impl TryFrom<u8> for RecordKind {
+    type Error = Refusal;
+
+    ghost try_from_gives = { read_as };
+
+    #[tactic(auto, using(crate::specs::Laws::Kinds::outside))]
+    fn try_from(byte: u8) -> Result<RecordKind, Refusal> {
+        match byte {
+            1 => Ok(RecordKind::Lowest),
+            2 => Ok(RecordKind::Highest),
+            3 => Ok(RecordKind::Around),
+            4 => Ok(RecordKind::Between),
+            5 => Ok(RecordKind::Layered),
+            6 => Ok(RecordKind::Named),
+            7 => Ok(RecordKind::Run),
+            8 => Ok(RecordKind::BetweenTrivial),
+            _ => Err(Refusal::UnknownKind),
+        }
+    }
+}
+
+// The kind of a form's record: no form is written as NAMED or RUN.
+impl From<Constructor> for RecordKind {
+    ghost use Rattle.stream_format.specs.Write.{kind_for};
+
+    ghost from_gives = { λ c kind. kind_number kind ≡ kind_for c };
+
+    fn from(form: Constructor) -> RecordKind {
+        match form {
+            Constructor::Lowest { .. } => RecordKind::Lowest,
+            Constructor::Highest { .. } => RecordKind::Highest,
+            Constructor::Around { .. } => RecordKind::Around,
+            Constructor::Between { .. } => RecordKind::Between,
+            Constructor::Layered { .. } => RecordKind::Layered,
+            Constructor::BetweenTrivial { .. } => RecordKind::BetweenTrivial,
+        }
+    }
+}
+
+// The bytes of the longer bodies. Document 02, order 2: kind 08 "has BETWEEN's body".
+const AROUND_BODY: usize = 17;
+
+const BETWEEN_BODY: usize = 21;
+
+pub const RUN_BODY: usize = 32;
+
+impl RecordKind {
+    // The bytes of its body, at most those of a run.
+    #[tactic(auto, unfolding(crate::specs::Kinds::kind_of, crate::specs::Kinds::kinds))]
+    pub fn body(self) -> usize
+        ensures body { result ≡ (row_of self).body }
+        ensures short { result ≤ run_body }
+    {
+        match self {
+            RecordKind::Lowest | RecordKind::Highest => 13,
+            RecordKind::Around => AROUND_BODY,
+            RecordKind::Between | RecordKind::BetweenTrivial => BETWEEN_BODY,
+            RecordKind::Layered => 3,
+            RecordKind::Named => 5,
+            RecordKind::Run => RUN_BODY,
+        }
+    }
 }
 
 // What an accepted stream holds: the rows read, and the wish list.
@@ -34,4 +108,13 @@ pub struct StreamRead {
 pub struct ReadRefusal {
     pub refusal: Refusal,
     pub place: usize,
+}
+
+// A call on a stream tells why it is refused, and not where.
+impl From<ReadRefusal> for Refusal {
+    ghost from_gives = { λ unread refusal. refusal ≡ unread.refusal };
+
+    fn from(unread: ReadRefusal) -> Refusal {
+        unread.refusal
+    }
 }

@@ -11,8 +11,8 @@ use Rattle.stream_format.specs.Laws.Kinds.{body_short, body_holds}
 use Rattle.stream_format.specs.Laws.Read.{Accepts, accepts, step_goes, steps_ended}
 use Rattle.stream_format.specs.Laws.Rows.{refused_stays}
 use Rattle.stream_format.specs.Laws.Values.{values_end}
-use Rattle.stream_format.specs.declared.Class.{Class}
-use Rattle.stream_format.specs.declared.Class.TheVariants.{Unknown, PreferenceRecord, NamedRecord, RunRecord}
+use Rattle.stream_format.specs.Kinds.{Class}
+use Rattle.stream_format.specs.Kinds.{Unknown, PreferenceRecord, NamedRecord, RunRecord}
 use Rattle.stream_reader.specs.Runs.{run_values}
 
 -- what n more steps read from r on: so many runs, which stand from a place to the end

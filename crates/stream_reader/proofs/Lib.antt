@@ -1,5 +1,6 @@
 pub mod LastRuns
 pub mod Log
 pub mod Part
+pub mod Placed
 pub mod PutRuns
 pub mod Records

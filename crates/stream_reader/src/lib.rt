@@ -13,18 +13,19 @@ ghost use Rattle.stream_reader.specs.Runs.{run_values};
 use refusal::Refusal;
 use stream_format::{ReadRefusal, StreamRead};
 use stream_record_reader::reading::Reading;
-use stream_record_reader::{kinds, values};
+use stream_record_reader::values;
 
 // Every record, or the first refusal.
 fn read_records(stream: &[u8]) -> Result<StreamRead, ReadRefusal>
     ensures { read_answer (length stream.now) result ≡ records stream.now }
 {
     let mut reading = Reading::new();
+    // No range: where the next record begins is known once this one is read.
     while reading.place < stream.len() {
         let place = reading.place;
-        if let Err(refusal) = reading.add_record(&stream[place..]) {
-            return Err(ReadRefusal { refusal, place });
-        }
+        reading
+            .add_record(&stream[place..])
+            .map_err(|refusal| ReadRefusal { refusal, place })?;
     }
     Ok(StreamRead {
         rows: reading.rows,
@@ -47,9 +48,10 @@ fn check_end(read: &StreamRead, room: usize) -> Result<(), Refusal>
 }
 
 // The bytes of a run's record: its kind and its body.
-const RUN_RECORD: usize = 1 + kinds::RUN_BODY;
+const RUN_RECORD: usize = 1 + stream_format::RUN_BODY;
 
 // Stores the values of so many runs, one after the other.
+// By number: of a log that `chunks_exact_mut` has lent a proof knows no number afterwards.
 #[tactic(auto, using(crate::proofs::PutRuns::run_by_run))]
 fn put_runs(runs: &[u8], rows: usize, log: &mut [i32])
     requires whole { length runs.now ≡ run_record * rows }
@@ -68,10 +70,8 @@ pub fn read(stream: &[u8], log: &mut [i32]) -> Result<StreamRead, ReadRefusal>
     ensures left { log.new ≡ log_after stream.now log.old }
 {
     let read = read_records(stream)?;
-    if let Err(refusal) = check_end(&read, log.len()) {
-        let place = stream.len();
-        return Err(ReadRefusal { refusal, place });
-    }
+    let place = stream.len();
+    check_end(&read, log.len()).map_err(|refusal| ReadRefusal { refusal, place })?;
     let first_run = stream.len() - RUN_RECORD * read.rows;
     put_runs(&stream[first_run..], read.rows, log);
     Ok(read)

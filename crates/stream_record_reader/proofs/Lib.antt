@@ -1,4 +1,3 @@
-pub mod Room
+pub mod Known
 pub mod Run
-pub mod Table
 pub mod Taken

@@ -4,17 +4,14 @@
 ghost use Rattle.std.specs.Prelude.{◌≡◌, ◌++◌};
 ghost use Rattle.word.specs.Word.{word_bytes, int_bytes};
 ghost use Rattle.output.specs.Writes.{Writes};
-ghost use Rattle.stream_format.specs.Write.{kind_for, constructor_bytes, preference_bytes, named_bytes, ints_bytes};
+ghost use Rattle.stream_format.specs.Write.{constructor_bytes, preference_bytes, named_bytes, ints_bytes};
 ghost use Rattle.stream_format.specs.Write.{between_bytes, run_bytes};
+ghost use Rattle.stream_format.specs.RecordKind.{kind_number};
 
 use constructor::{Constructor, Scale, Target};
 use output::Output;
 use preference::{Named, Preference};
-
-// The kinds of the records that are no form's.
-const NAMED: u8 = 6;
-
-const RUN: u8 = 7;
+use stream_format::RecordKind;
 
 // The figures that all forms but LAYERED begin with.
 #[tactic(auto, using(crate::proofs::Rules::figures))]
@@ -53,25 +50,11 @@ fn put_constructor(out: &mut Output<'_>, c: Constructor)
     }
 }
 
-// The kind of a form's record: a number, since it is the byte that a stream has.
-fn kind_for(c: Constructor) -> u8
-    ensures { result ≡ kind_for c }
-{
-    match c {
-        Constructor::Lowest { .. } => 1,
-        Constructor::Highest { .. } => 2,
-        Constructor::Around { .. } => 3,
-        Constructor::Between { .. } => 4,
-        Constructor::Layered { .. } => 5,
-        Constructor::BetweenTrivial { .. } => 8,
-    }
-}
-
 #[tactic(auto, using(crate::proofs::Rules::fields), unfolding(stream_format::specs::Write::preference_bytes))]
 pub fn put_preference(out: &mut Output<'_>, p: Preference)
     ensures { Writes out.old out.new (preference_bytes p) }
 {
-    out.put_byte(kind_for(p.constructor));
+    out.put_byte(u8::from(RecordKind::from(p.constructor)));
     out.put_byte(p.column);
     put_constructor(out, p.constructor);
 }
@@ -80,7 +63,7 @@ pub fn put_preference(out: &mut Output<'_>, p: Preference)
 pub fn put_named(out: &mut Output<'_>, e: Named)
     ensures { Writes out.old out.new (named_bytes e) }
 {
-    out.put_byte(NAMED);
+    out.put_byte(u8::from(RecordKind::Named));
     out.put_i32(e.value);
     out.put_byte(e.layer);
 }
@@ -99,6 +82,6 @@ fn put_ints(out: &mut Output<'_>, row: &[i32])
 pub fn put_run(out: &mut Output<'_>, row: &[i32])
     ensures { Writes out.old out.new (run_bytes row.now) }
 {
-    out.put_byte(RUN);
+    out.put_byte(u8::from(RecordKind::Run));
     put_ints(out, row);
 }

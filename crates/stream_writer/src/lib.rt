@@ -4,11 +4,12 @@
 
 ghost use Rattle.std.specs.Prelude.{◌≡◌, ◌≤◌, length};
 ghost use Rattle.std.proofs.lemmas.List.Edits.{sets};
-ghost use Rattle.limits.specs.Limits.{max_wishes, max_named};
+ghost use Rattle.limits.specs.Limits.{max_named};
 ghost use Rattle.run_log.specs.Log.{row_count, log_refusal};
 ghost use Rattle.laws.specs.Outcome.{outcome};
 ghost use Rattle.laws.specs.Lists.{joined};
 ghost use Rattle.refusal.specs.Refusal.{outcome_of};
+ghost use Rattle.preference.specs.List.{places, named_places};
 ghost use Rattle.preference.specs.Valid.{list_refusal};
 ghost use Rattle.output.specs.Writes.{Writes};
 ghost use Rattle.stream_format.specs.Write.{named_bytes_of, preference_records, row_bytes};
@@ -21,10 +22,9 @@ use refusal::Refusal;
 // The named values of the preference at place i.
 #[tactic(auto, using(crate::proofs::Rules::places))]
 fn put_names_of(out: &mut Output<'_>, list: &PreferenceList, i: usize)
-    requires { list.now.namedcount ≤ max_named }
-    ensures { Writes out.old out.new (joined (named_bytes_of list.now i) list.now.namedcount) }
+    ensures { Writes out.old out.new (joined (named_bytes_of list.now i) (named_places list.now)) }
 {
-    for naming in &list.named[..list.namedcount as usize] {
+    for naming in list.counted_names() {
         if usize::from(naming.preference) == i {
             stream_record_writer::put_named(out, *naming);
         }
@@ -34,11 +34,10 @@ fn put_names_of(out: &mut Output<'_>, list: &PreferenceList, i: usize)
 // Each preference, and its named values.
 #[tactic(auto, using(crate::proofs::Rules::places), unfolding(stream_format::specs::Write::preference_records))]
 fn put_preferences(out: &mut Output<'_>, list: &PreferenceList)
-    requires few { list.now.count ≤ max_wishes }
-    requires few_named { list.now.namedcount ≤ max_named }
-    ensures { Writes out.old out.new (joined (preference_records list.now) list.now.count) }
+    requires { list.now.namedcount ≤ max_named }
+    ensures { Writes out.old out.new (joined (preference_records list.now) (places list.now)) }
 {
-    for (i, p) in list.preferences[..list.count as usize].iter().enumerate() {
+    for (i, p) in list.counted().iter().enumerate() {
         stream_record_writer::put_preference(out, *p);
         put_names_of(out, list, i);
     }
@@ -48,6 +47,7 @@ fn put_preferences(out: &mut Output<'_>, list: &PreferenceList)
 fn put_runs(out: &mut Output<'_>, log: &[i32])
     ensures { Writes out.old out.new (joined (row_bytes log.now) (row_count log.now)) }
 {
+    // By number: `run_log` alone cuts a log into rows.
     for r in 0..run_log::row_count(log) {
         stream_record_writer::put_run(out, run_log::row(log, r));
     }
@@ -61,7 +61,7 @@ fn store(out: &mut [u8], list: &PreferenceList, log: &[i32]) -> usize
     ensures length_is { result ≡ length (stream_of list.now log.now) }
     ensures stored { out.new ≡ sets out.old 0 (stream_of list.now log.now) }
 {
-    let mut stream = Output::new(out);
+    let mut stream = Output::for_records(out);
     put_preferences(&mut stream, list);
     put_runs(&mut stream, log);
     stream.at

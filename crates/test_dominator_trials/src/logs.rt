@@ -2,24 +2,18 @@
 use refusal::Refusal;
 use std::alloc::{AllocError, Global};
 use std::io;
-use test_support::logs::{self, Generated};
+use test_support::figures::{Seed, Seeds};
+use test_support::logs::Generated;
+use test_support::tried::{Accepted, Tried};
 use test_support::{counts, levels_apart, nested};
 
 const LOGS: u32 = 400;
 
-// A log that is not refused by 8: its level parts, its rows and those on the shortlist.
+// The rows of a log, and those on the shortlist.
 #[derive(Clone, Copy)]
-struct Accepted {
-    parts: usize,
-    rows: usize,
+struct Rows {
+    all: usize,
     best: usize,
-}
-
-// How a log was tried, and the answers that are not due.
-#[derive(Clone, Copy)]
-struct Tried {
-    accepted: Option<Accepted>,
-    differing: usize,
 }
 
 fn answer_of(log: &Generated, row: u32) -> Result<u32, Refusal> {
@@ -45,7 +39,7 @@ fn is_due(answer: Result<u32, Refusal>, table: &[Vec<u32>], marks: &[u8], row: u
 }
 
 // A log with a value outside its bounds: 8, of a row and past the rows.
-fn refused(log: &Generated) -> Tried {
+fn refused(log: &Generated) -> Tried<Rows> {
     let agreed = answer_of(log, 0) == Err(Refusal::OutsideBounds)
         && answer_of(log, log.row_count()) == Err(Refusal::OutsideBounds);
     Tried {
@@ -55,7 +49,7 @@ fn refused(log: &Generated) -> Tried {
 }
 
 // Any other log: what is due of each row, and 12 past them.
-fn try_accepted(alloc: Global, log: &Generated) -> Result<Tried, AllocError> {
+fn try_accepted(alloc: Global, log: &Generated) -> Result<Tried<Rows>, AllocError> {
     let table = nested::table_of(alloc, log.list, log.rows.as_slice())?;
     let marks = nested::marks_of(alloc, table.as_slice())?;
     let rows = log.row_count();
@@ -70,8 +64,10 @@ fn try_accepted(alloc: Global, log: &Generated) -> Result<Tried, AllocError> {
     let past = usize::from(answer_of(log, rows) != Err(Refusal::NoSuchRow));
     let accepted = Accepted {
         parts: levels_apart::tops_of(alloc, log.list)?.len(),
-        rows: rows as usize,
-        best: marks.iter().filter(|mark| **mark == 1).count(),
+        figures: Rows {
+            all: rows as usize,
+            best: marks.iter().filter(|mark| **mark == 1).count(),
+        },
     };
     Ok(Tried {
         accepted: Some(accepted),
@@ -79,28 +75,27 @@ fn try_accepted(alloc: Global, log: &Generated) -> Result<Tried, AllocError> {
     })
 }
 
-fn try_log(alloc: Global, log: &Generated) -> Result<Tried, AllocError> {
+fn try_log(alloc: Global, seed: Seed) -> Result<Tried<Rows>, AllocError> {
+    let log = Generated::new(alloc, seed)?;
     if nested::strays(log.list, log.rows.as_slice()) {
-        Ok(refused(log))
+        Ok(refused(&log))
     } else {
-        try_accepted(alloc, log)
+        try_accepted(alloc, &log)
     }
-}
-
-fn sixteen(tried: &Tried) -> bool {
-    tried.accepted.is_some_and(|log| log.parts == 16)
 }
 
 pub fn all(rt: &(impl Print + AllocGlobal)) -> io::Result<()> {
     let alloc = rt.alloc();
-    let all = logs::try_each(alloc, LOGS, |log| try_log(alloc, log))?;
-    let all = all.as_slice();
+    let tried: Vec<Tried<Rows>> = Seeds::new(LOGS)
+        .map(|seed| try_log(alloc, seed))
+        .try_collect(alloc)?;
+    let tried = tried.as_slice();
     println!(rt;
         "generated logs {LOGS} refused 8: {} sixteen parts: {} rows {} refused 13: {} differing {}",
-        counts::total(all, |t| usize::from(t.accepted.is_none())),
-        counts::total(all, |t| usize::from(sixteen(t))),
-        counts::total(all, |t| t.accepted.map_or(0, |log| log.rows)),
-        counts::total(all, |t| t.accepted.map_or(0, |log| log.best)),
-        counts::total(all, |t| t.differing)
+        counts::total(tried, |t| usize::from(t.accepted.is_none())),
+        counts::total(tried, |t| usize::from(t.has_sixteen())),
+        counts::total(tried, |t| t.accepted.map_or(0, |log| log.figures.all)),
+        counts::total(tried, |t| t.accepted.map_or(0, |log| log.figures.best)),
+        counts::total(tried, |t| t.differing)
     )
 }

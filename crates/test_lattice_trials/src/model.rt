@@ -1,4 +1,6 @@
 // Node bytes and crossings, found by comparing every node with every row.
+ghost use Rattle.std.specs.Prelude.{◌<◌, ◌≤◌, IfOk, IfSome};
+
 use std::alloc::{AllocError, Global};
 use test_support::nested;
 
@@ -17,7 +19,9 @@ fn advance(digits: &mut [u32], tops: &[u32]) -> bool {
 }
 
 // The number of nodes, where they are not too many.
-pub fn count(alloc: Global, tops: &[u32]) -> Result<Option<u32>, AllocError> {
+pub fn count(alloc: Global, tops: &[u32]) -> Result<Option<u32>, AllocError>
+    ensures { IfOk result (λ found. IfSome found (λ n. (0 < n) × (n ≤ 32768))) }
+{
     let mut digits = vec![in alloc; 0; tops.len()]?;
     for n in 1..=MOST_NODES {
         if !advance(digits.as_mut_slice(), tops) {
@@ -34,19 +38,19 @@ fn byte_of(table: &[Vec<u32>], digits: &[u32]) -> u8 {
 }
 
 // The edges that leave a node: the parts whose digit is below its greatest level.
-fn leaving(digits: &[u32], tops: &[u32]) -> u32 {
+fn leaving(digits: &[u32], tops: &[u32]) -> usize {
     digits
         .iter()
         .zip(tops)
-        .map(|(digit, top)| u32::from(digit < top))
-        .fold(0, u32::saturating_add)
+        .filter(|(digit, top)| digit < top)
+        .count()
 }
 
 // The bytes of the nodes, and the edges that leave reached ones.
 #[derive(Drop)]
 pub struct Nodes {
     pub bytes: Vec<u8>,
-    pub crossed: u32,
+    pub crossed: usize,
 }
 
 pub fn nodes_of(

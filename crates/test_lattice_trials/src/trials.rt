@@ -4,7 +4,8 @@ use crate::model;
 use refusal::Refusal;
 use std::alloc::{AllocError, Global};
 use std::io;
-use test_support::logs::{self, Generated};
+use test_support::figures::{Seed, Seeds};
+use test_support::logs::Generated;
 use test_support::{lent, levels_apart, nested};
 
 const LOGS: u32 = 1000;
@@ -88,7 +89,7 @@ fn try_accepted(
     let marks = nested::marks_of(alloc, table.as_slice())?;
     let nodes = model::nodes_of(alloc, table.as_slice(), tops, count)?;
     let bytes = nodes.bytes.as_slice();
-    let crossed = nodes.crossed;
+    let crossed = u32::try_from(nodes.crossed).unwrap_or(u32::MAX);
     let mut agreed = refuses_marks(log)
         && refuses(log, Refusal::NoRoom, MARKS, bytes.len().saturating_sub(1))
         && leaves(log, crossed, Ok(crossed), marks.as_slice(), bytes);
@@ -105,14 +106,15 @@ fn try_accepted(
     })
 }
 
-fn try_log(alloc: Global, log: &Generated) -> Result<Tried, AllocError> {
+fn try_log(alloc: Global, seed: Seed) -> Result<Tried, AllocError> {
+    let log = Generated::new(alloc, seed)?;
     if nested::strays(log.list, log.rows.as_slice()) {
-        return Ok(refused(log, Refusal::OutsideBounds));
+        return Ok(refused(&log, Refusal::OutsideBounds));
     }
     let tops = levels_apart::tops_of(alloc, log.list)?;
     match model::count(alloc, tops.as_slice())? {
-        Some(count) => try_accepted(alloc, log, tops.as_slice(), count),
-        None => Ok(refused(log, Refusal::TooManyNodes)),
+        Some(count) => try_accepted(alloc, &log, tops.as_slice(), count),
+        None => Ok(refused(&log, Refusal::TooManyNodes)),
     }
 }
 
@@ -175,6 +177,8 @@ fn show(rt: &impl Print, tried: &[Tried]) -> io::Result<()> {
 
 pub fn generated(rt: &(impl Print + AllocGlobal)) -> io::Result<()> {
     let alloc = rt.alloc();
-    let tried = logs::try_each(alloc, LOGS, |log| try_log(alloc, log))?;
+    let tried: Vec<Tried> = Seeds::new(LOGS)
+        .map(|seed| try_log(alloc, seed))
+        .try_collect(alloc)?;
     show(rt, tried.as_slice())
 }

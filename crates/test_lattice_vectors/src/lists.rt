@@ -14,11 +14,7 @@ pub fn pair(m: i32) -> PreferenceList {
 
 // Seven wishes with M 1, on columns 1 to 7.
 fn seven_pairs() -> PreferenceList {
-    let mut list = trial::none();
-    for column in 1..8 {
-        list = trial::with(list, column, above(1));
-    }
-    list
+    trial::on_each(1..8, above(1))
 }
 
 // With HIGHEST on the hours, of which 1 is best: fifteen parts with M 1.

@@ -7,17 +7,16 @@ use test_support::short_logs::{self, run};
 use test_support::show::Spaced;
 
 // Which of so many nodes the rows hold, with a budget that is enough.
-fn show_nodes(
+fn show_nodes<const N: usize>(
     rt: &impl Print,
     label: &str,
     list: PreferenceList,
-    log: &[i32],
+    rows: &[[i32; 8]; N],
     nodes: &mut [u8],
     budget: u32,
 ) -> io::Result<()> {
-    let mut marks = [238u8; 11];
-    let lent = &mut marks[..(log.len() / 8).min(11)];
-    let _ = lattice::run(list, log, lent, nodes, budget);
+    let mut marks = [238u8; N];
+    let _ = lattice::run(list, rows.as_flattened(), &mut marks, nodes, budget);
     println!(rt; "{label}{}", Held(nodes))
 }
 
@@ -46,7 +45,7 @@ pub fn of_000(rt: &impl Print) -> io::Result<()> {
     for (label, a, b) in cases {
         let mut nodes = [238u8; 12];
         let list = short_logs::lowest_to(&[3, 2]);
-        show_nodes(rt, label, list, &run(1, a, b), &mut nodes, 17)?;
+        show_nodes(rt, label, list, &[run(1, a, b)], &mut nodes, 17)?;
     }
     show_apart(rt)
 }
@@ -59,8 +58,7 @@ fn show_usable(rt: &impl Print) -> io::Result<()> {
     }
     let mut nodes = [238u8; 36];
     let label = "000 Lemma 11, kind 08 with M 5, every value:";
-    let log = rows.as_flattened();
-    show_nodes(rt, label, lists::both_sides(), log, &mut nodes, 60)
+    show_nodes(rt, label, lists::both_sides(), &rows, &mut nodes, 60)
 }
 
 pub fn of_02(rt: &impl Print) -> io::Result<()> {
@@ -71,7 +69,7 @@ pub fn of_02(rt: &impl Print) -> io::Result<()> {
     ];
     for (label, value, level) in cases {
         let mut nodes = [238u8; 48];
-        let log = run(1, value, level);
+        let log = [run(1, value, level)];
         show_nodes(rt, label, lists::pair_and_one(), &log, &mut nodes, 120)?;
     }
     show_usable(rt)

@@ -32,17 +32,8 @@ fn show_second(rt: &impl Print, cases: &[(&str, (u8, Constructor))]) -> io::Resu
     })
 }
 
-// Eight preferences of one form, one to a column.
-fn eight(c: Constructor) -> PreferenceList {
-    let mut list = trial::none();
-    for column in 0..8 {
-        list = trial::with(list, column, c);
-    }
-    list
-}
-
 fn lists(rt: &impl Print) -> io::Result<()> {
-    let full = eight(GOOD);
+    let full = trial::on_each(0..8, GOOD);
     show_lists(
         rt,
         &[

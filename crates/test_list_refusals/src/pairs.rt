@@ -17,7 +17,7 @@ fn over_100(step: u32, low: i32, up: i32) -> Constructor {
 }
 
 fn lists(rt: &impl Print) -> io::Result<()> {
-    let full = crate::eight(PAIR);
+    let full = trial::on_each(0..8, PAIR);
     crate::show_lists(
         rt,
         &[

@@ -21,9 +21,9 @@ pub enum Fault {
     Room = 10,
 }
 
-impl Fault {
-    pub fn number(self) -> u8 {
-        self as u8
+impl From<Fault> for u8 {
+    fn from(fault: Fault) -> u8 {
+        fault as u8
     }
 }
 
@@ -33,7 +33,7 @@ pub struct Refused {
     pub place: usize,
 }
 
-#[derive(Clone, Copy, PartialEq, Eq)]
+#[derive(Clone, Copy, PartialEq, Eq, Default)]
 pub struct Counts {
     pub rows: usize,
     pub wishes: usize,
@@ -126,7 +126,7 @@ fn check_layers(top: u8, others: u8) -> Result<(), Fault> {
 
 // What was read before a place: the counts, the columns taken, the kind of the last record, and the top layer of the
 // last LAYERED wish.
-#[derive(Drop)]
+#[derive(Default, Drop)]
 struct Before {
     counts: Counts,
     columns: [bool; 8],
@@ -203,16 +203,7 @@ impl Before {
 
 // The verdict on a stream read into a log of so many numbers.
 pub fn judge(stream: &[u8], room: usize) -> Result<Counts, Refused> {
-    let mut before = Before {
-        counts: Counts {
-            rows: 0,
-            wishes: 0,
-            names: 0,
-        },
-        columns: [false; 8],
-        last: None,
-        top: 0,
-    };
+    let mut before = Before::default();
     let mut rest = stream;
     while let Some((kind, after)) = rest.split_first() {
         let place = stream.len() - rest.len();

@@ -1,5 +1,6 @@
 // A sheet told byte by byte, apart from the product: what stands at a place follows from the place alone. Lines are
 // counted over all pages, 52 to a page, and numbers are read from their right end, at distance 0.
+ghost use Rattle.std.specs.Prelude.{◌≤◌};
 
 fn letter(text: &[u8], at: usize) -> u8 {
     text.get(at).copied().unwrap_or(b' ')
@@ -106,10 +107,12 @@ fn in_foot(page: usize, pages: usize, d: usize) -> u8 {
 
 // ---- the sheet of some runs
 
-// The number of its last line, counted from 0: the foot behind the last run.
-pub fn last_line(runs: &[Run]) -> usize {
-    match runs.len().checked_sub(1) {
-        Some(last) => last.saturating_add(last / 50 * 2 + 2),
+// The number of its last line, counted from 0: the foot behind the last run. No log has more than 1,024.
+pub fn last_line(runs: &[Run]) -> usize
+    ensures { result ≤ 2000 }
+{
+    match runs.len().min(1024).checked_sub(1) {
+        Some(last) => last + last / 50 * 2 + 2,
         None => 1,
     }
 }

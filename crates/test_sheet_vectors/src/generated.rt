@@ -1,10 +1,14 @@
 // Logs and marks from a seed: up to 200 rows; from none of them marked, by eighths, to all.
+ghost use Rattle.std.specs.Prelude.{◌≤◌};
+
 use crate::apart::Run;
 use std::alloc::{AllocError, Global};
 use std::array;
 use test_support::figures::Seed;
 
-fn rows_of(seed: Seed) -> u16 {
+pub fn rows_of(seed: Seed) -> u16
+    ensures { result ≤ 200 }
+{
     seed.upto(2, 200)
 }
 

@@ -5,7 +5,7 @@ use crate::generated::Marked;
 use std::alloc::{AllocError, Global};
 use std::io;
 use test_support::counts;
-use test_support::figures::Seeds;
+use test_support::figures::{Seed, Seeds};
 
 const LOGS: u32 = 500;
 
@@ -33,22 +33,22 @@ fn differing(log: &Marked, runs: &[Run]) -> usize {
         .count()
 }
 
-fn try_log(alloc: Global, log: &Marked) -> Result<Tried, AllocError> {
+fn try_log(alloc: Global, seed: Seed) -> Result<Tried, AllocError> {
+    let log = Marked::new(alloc, seed)?;
     let runs = log.runs(alloc)?;
     let runs = runs.as_slice();
     Ok(Tried {
         runs: runs.len(),
         pages: apart::last_line(runs) / 52 + 1,
-        differing: differing(log, runs),
+        differing: differing(&log, runs),
     })
 }
 
 pub fn all(rt: &(impl Print + AllocGlobal)) -> io::Result<()> {
-    let mut tried = Vec::new(rt.alloc());
-    for seed in Seeds::new(LOGS) {
-        let log = Marked::new(rt.alloc(), seed)?;
-        tried.push(try_log(rt.alloc(), &log)?)?;
-    }
+    let alloc = rt.alloc();
+    let tried: Vec<Tried> = Seeds::new(LOGS)
+        .map(|seed| try_log(alloc, seed))
+        .try_collect(alloc)?;
     let tried = tried.as_slice();
     println!(rt;
         "generated logs, their runs, pages, and bytes that differ: {LOGS} {} {} {}",

@@ -13,7 +13,8 @@ impl Seed {
 
     // A figure below n; 0 where n is 0.
     pub fn below(self, salt: u32, n: u32) -> u32
-        ensures { 0 < n → result < n }
+        ensures below { 0 < n → result < n }
+        ensures most { result ≤ n }
     {
         let mixed = Seed(self.0.wrapping_add(salt.wrapping_mul(2654435761)));
         let figure = mixed.next().next().0 / 65536;

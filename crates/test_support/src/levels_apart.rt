@@ -13,35 +13,34 @@ fn plain(v: i32) -> u32 {
     u32::try_from(v).unwrap_or(0)
 }
 
-// How far a value is from those wished for, low to up.
-fn outside(low: i32, up: i32, v: u32) -> u32 {
+// How far a value is from what is wished for. Here and in `range_of` an arm for several forms only names what
+// it binds: the check does not prove one that binds a signed number and makes a call (tried; a bug of rattle's,
+// as it says).
+fn distance(c: Constructor, v: u32) -> u32 {
+    let (low, up) = match c {
+        Constructor::Lowest { lo, .. } => return v.saturating_sub(plain(lo)),
+        Constructor::Highest { hi, .. } => return plain(hi).saturating_sub(v),
+        Constructor::Layered { .. } => return 0,
+        Constructor::Around { z, .. } => (z, z),
+        Constructor::Between { low, up, .. } | Constructor::BetweenTrivial { low, up, .. } => {
+            (low, up)
+        }
+    };
     let under = plain(low).saturating_sub(v);
     under.max(v.saturating_sub(plain(up)))
 }
 
-// How far a value is from what is wished for. Each form has its arm, here and in `range_of`: the check does not prove
-// an arm for several forms that binds a signed number (tried; it says itself that this is a bug of rattle's).
-fn distance(c: Constructor, v: u32) -> u32 {
-    match c {
-        Constructor::Lowest { lo, .. } => v.saturating_sub(plain(lo)),
-        Constructor::Highest { hi, .. } => plain(hi).saturating_sub(v),
-        Constructor::Around { z, .. } => outside(z, z, v),
-        Constructor::Between { low, up, .. } => outside(low, up, v),
-        Constructor::Layered { .. } => 0,
-        Constructor::BetweenTrivial { low, up, .. } => outside(low, up, v),
-    }
-}
-
 // The values that a form takes, but for LAYERED, which takes every value.
 pub fn range_of(c: Constructor) -> Option<RangeInclusive<i32>> {
-    match c {
-        Constructor::Lowest { lo, hi, .. } => Some(lo..=hi),
-        Constructor::Highest { lo, hi, .. } => Some(lo..=hi),
-        Constructor::Around { lo, hi, .. } => Some(lo..=hi),
-        Constructor::Between { lo, hi, .. } => Some(lo..=hi),
-        Constructor::Layered { .. } => None,
-        Constructor::BetweenTrivial { lo, hi, .. } => Some(lo..=hi),
-    }
+    let (lo, hi) = match c {
+        Constructor::Lowest { lo, hi, .. }
+        | Constructor::Highest { lo, hi, .. }
+        | Constructor::Around { lo, hi, .. }
+        | Constructor::Between { lo, hi, .. }
+        | Constructor::BetweenTrivial { lo, hi, .. } => (lo, hi),
+        Constructor::Layered { .. } => return None,
+    };
+    Some(lo..=hi)
 }
 
 fn step_of(c: Constructor) -> u32 {
@@ -97,7 +96,7 @@ fn layer(list: &PreferenceList, place: usize, v: i32, others: u8) -> u8 {
 
 // ---- parts of level vectors
 
-// What a wish gives to a level vector: one part, or two under kind 08.
+// What a wish gives to a level vector: one part, or two under kind 08. Both cases hold levels, so it is no Option.
 #[derive(Clone, Copy)]
 enum Parts {
     One(u32),

@@ -14,3 +14,4 @@ pub mod room;
 pub mod short_logs;
 pub mod show;
 pub mod trial;
+pub mod tried;

@@ -137,7 +137,9 @@ impl Column {
     }
 }
 
-pub fn count_of(seed: Seed) -> u8 {
+pub fn count_of(seed: Seed) -> u8
+    ensures { (0 < result) × (result ≤ 8) }
+{
     seed.upto(3, 7) as u8 + 1
 }
 

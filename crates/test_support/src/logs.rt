@@ -1,11 +1,15 @@
 // Logs of up to 40 rows. About one in eight has a value that its preference refuses by 8.
-use crate::figures::{Seed, Seeds};
+ghost use Rattle.std.specs.Prelude.{◌≤◌};
+
+use crate::figures::Seed;
 use crate::lists::{self, Column};
 use preference::PreferenceList;
 use std::alloc::{AllocError, Global};
 use std::array;
 
-fn rows_of(seed: Seed) -> u16 {
+pub fn rows_of(seed: Seed) -> u16
+    ensures { result ≤ 40 }
+{
     seed.upto(2, 40)
 }
 
@@ -67,19 +71,4 @@ impl Generated {
     pub fn row_count(&self) -> u32 {
         u32::try_from(self.rows.len()).unwrap_or(u32::MAX)
     }
-}
-
-// What comes of each of so many generated logs.
-pub fn try_each<T: Drop, F: Fn(&Generated) -> Result<T, AllocError>>(
-    alloc: Global,
-    count: u32,
-    try_log: F,
-) -> Result<Vec<T>, AllocError>
-    requires { F.IsAlwaysCallable try_log }
-{
-    let mut tried = Vec::new(alloc);
-    for seed in Seeds::new(count) {
-        tried.push(try_log(&Generated::new(alloc, seed)?)?)?;
-    }
-    Ok(tried)
 }

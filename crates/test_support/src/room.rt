@@ -1,4 +1,5 @@
-// What a call of the window engine is lent, and what stands in it before the call.
+// Calls of the window engine: what they ask, what they are lent, and what stands there before them.
+use preference::PreferenceList;
 
 pub const MARK: u8 = 238;
 
@@ -19,4 +20,13 @@ impl Room {
             work: rows.saturating_add(w as usize).saturating_mul(2),
         }
     }
+}
+
+// A list and a log, the window, and the room for it.
+#[derive(Clone, Copy)]
+pub struct Call<'a> {
+    pub list: PreferenceList,
+    pub log: &'a [i32],
+    pub w: u32,
+    pub room: Room,
 }

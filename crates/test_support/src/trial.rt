@@ -5,6 +5,7 @@ use crate::show::Refused;
 use constructor::{Constructor, Side};
 use preference::{Named, Preference, PreferenceList, Told};
 use refusal::Refusal;
+use std::ops::Range;
 use std::{fmt, io};
 
 pub fn lowest(lo: i32, hi: i32, step: u32) -> Constructor {
@@ -101,6 +102,11 @@ pub fn list(wishes: &[(u8, Constructor)]) -> PreferenceList {
 
 pub fn single(c: Constructor) -> PreferenceList {
     with(none(), 7, c)
+}
+
+// The list of one form, on each of these columns.
+pub fn on_each(columns: Range<u8>, constructor: Constructor) -> PreferenceList {
+    columns.fold(none(), |list, column| with(list, column, constructor))
 }
 
 // The list with these values in a layer of the preference at a place.

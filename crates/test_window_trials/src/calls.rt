@@ -1,9 +1,8 @@
 // Calls of the window engine, held against what is due. Logs have at most 40 rows; all that is lent is longer than it
 // has to be, or cut to a length, and what stands past that length has to stay.
-use preference::PreferenceList;
 use refusal::Refusal;
 use test_support::lent;
-use test_support::room::{MARK, Room, WORD};
+use test_support::room::{Call, MARK, Room, WORD};
 
 const MARKS: usize = 48;
 
@@ -15,25 +14,18 @@ pub const ENOUGH: Room = Room {
     work: WORK,
 };
 
-// Whether the engine, lent this much, comes back as is due and leaves these marks, and leaves a list as it was past
-// what it was lent, or all of it where it refuses.
-pub fn leaves(
-    list: PreferenceList,
-    log: &[i32],
-    room: Room,
-    w: u32,
-    due: Result<u32, Refusal>,
-    due_marks: &[u8],
-) -> bool {
+// Whether the engine comes back as is due and leaves these marks, and leaves a list as it was past what it was
+// lent, or all of it where it refuses.
+pub fn leaves(call: Call, due: Result<u32, Refusal>, due_marks: &[u8]) -> bool {
     let mut marks = [MARK; MARKS];
     let mut work = [WORD; WORK];
-    let lent_work = room.work.min(WORK);
+    let lent_work = call.room.work.min(WORK);
     let answer = window::run(
-        list,
-        log,
-        &mut marks[..room.marks.min(MARKS)],
+        call.list,
+        call.log,
+        &mut marks[..call.room.marks.min(MARKS)],
         &mut work[..lent_work],
-        w,
+        call.w,
     );
     let written = if due.is_ok() { lent_work } else { 0 };
     answer == due
@@ -41,7 +33,7 @@ pub fn leaves(
         && lent::changed(&work[written..], WORD) == 0
 }
 
-// Whether the engine, lent this much, refuses for this.
-pub fn refuses(list: PreferenceList, log: &[i32], room: Room, w: u32, refusal: Refusal) -> bool {
-    leaves(list, log, room, w, Err(refusal), &[])
+// Whether the engine refuses for this.
+pub fn refuses(call: Call, refusal: Refusal) -> bool {
+    leaves(call, Err(refusal), &[])
 }

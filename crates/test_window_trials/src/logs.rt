@@ -1,17 +1,25 @@
 // Generated logs with every form of wish, some with a value outside its bounds.
 use crate::calls::{self, ENOUGH};
-use crate::windows;
+use crate::windows::{self, Figures};
 use refusal::Refusal;
 use std::alloc::{AllocError, Global};
 use std::io;
-use test_support::logs::{self, Generated};
-use test_support::room::Room;
+use test_support::figures::{Seed, Seeds};
+use test_support::logs::Generated;
+use test_support::room::{Call, Room};
+use test_support::tried::{Accepted, Tried};
 use test_support::{counts, levels_apart, nested};
 
 const LOGS: u32 = 400;
 
 fn refuses(log: &Generated, room: Room, w: u32, refusal: Refusal) -> bool {
-    calls::refuses(log.list, log.numbers(), room, w, refusal)
+    let call = Call {
+        list: log.list,
+        log: log.numbers(),
+        w,
+        room,
+    };
+    calls::refuses(call, refusal)
 }
 
 // Refusals by 8, with the least window and the widest.
@@ -44,31 +52,15 @@ fn refuses_10(log: &Generated) -> bool {
         && refuses_work(log, 1024)
 }
 
-// A log that is not refused by 8: its level parts, its shortlisted rows, and the compares in all windows.
-#[derive(Clone, Copy)]
-struct Accepted {
-    parts: usize,
-    best: usize,
-    compares: usize,
-}
-
-// How a log was tried, and how often the engine differs.
-#[derive(Clone, Copy)]
-struct Tried {
-    accepted: Option<Accepted>,
-    differing: usize,
-}
-
 // All windows have to agree.
-fn try_accepted(alloc: Global, log: &Generated) -> Result<Tried, AllocError> {
+fn try_accepted(alloc: Global, log: &Generated) -> Result<Tried<Figures>, AllocError> {
     let rows = log.rows.as_slice();
     let table = nested::table_of(alloc, log.list, rows)?;
     let all = [1, 2, 3, 64, 1024];
     let tried = windows::try_windows(alloc, log.list, rows, table.as_slice(), &all)?;
     let accepted = Accepted {
         parts: levels_apart::tops_of(alloc, log.list)?.len(),
-        best: tried.best,
-        compares: tried.compares,
+        figures: tried.figures,
     };
     Ok(Tried {
         accepted: Some(accepted),
@@ -77,36 +69,35 @@ fn try_accepted(alloc: Global, log: &Generated) -> Result<Tried, AllocError> {
 }
 
 // 8 is due where a value lies outside its bounds.
-fn try_log(alloc: Global, log: &Generated) -> Result<Tried, AllocError> {
+fn try_log(alloc: Global, seed: Seed) -> Result<Tried<Figures>, AllocError> {
+    let log = Generated::new(alloc, seed)?;
     let tried = if nested::strays(log.list, log.rows.as_slice()) {
         Tried {
             accepted: None,
-            differing: usize::from(!refuses_8(log)),
+            differing: usize::from(!refuses_8(&log)),
         }
     } else {
-        try_accepted(alloc, log)?
+        try_accepted(alloc, &log)?
     };
-    let short = usize::from(!refuses_10(log));
+    let short = usize::from(!refuses_10(&log));
     Ok(Tried {
         differing: tried.differing.saturating_add(short),
         ..tried
     })
 }
 
-fn sixteen(tried: &Tried) -> bool {
-    tried.accepted.is_some_and(|log| log.parts == 16)
-}
-
 pub fn all(rt: &(impl Print + AllocGlobal)) -> io::Result<()> {
     let alloc = rt.alloc();
-    let tried = logs::try_each(alloc, LOGS, |log| try_log(alloc, log))?;
+    let tried: Vec<Tried<Figures>> = Seeds::new(LOGS)
+        .map(|seed| try_log(alloc, seed))
+        .try_collect(alloc)?;
     let tried = tried.as_slice();
     println!(rt;
         "generated logs {LOGS} refused 8: {} sixteen parts: {} best {} compares {} differing {}",
         counts::total(tried, |t| usize::from(t.accepted.is_none())),
-        counts::total(tried, |t| usize::from(sixteen(t))),
-        counts::total(tried, |t| t.accepted.map_or(0, |log| log.best)),
-        counts::total(tried, |t| t.accepted.map_or(0, |log| log.compares)),
+        counts::total(tried, |t| usize::from(t.has_sixteen())),
+        counts::total(tried, |t| t.accepted.map_or(0, |log| log.figures.best)),
+        counts::total(tried, |t| t.accepted.map_or(0, |log| log.figures.compares)),
         counts::total(tried, |t| t.differing)
     )
 }

@@ -12,7 +12,6 @@ mod small;
 mod windows;
 
 fn main(rt: HostRuntime) -> io::Result<()> {
-    small::lowest(&rt)?;
-    small::pairs(&rt)?;
+    small::all(&rt)?;
     logs::all(&rt)
 }

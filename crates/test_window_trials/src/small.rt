@@ -1,7 +1,7 @@
 // All logs of three rows with few values, each with the windows 1, 2 and 3.
 ghost use Rattle.std.specs.Prelude.{◌<◌, ◌≤◌};
 
-use crate::windows::{self, Tried};
+use crate::windows::{self, Windows};
 use std::alloc::{AllocError, Global};
 use std::io;
 use test_support::short_logs::run;
@@ -17,17 +17,8 @@ fn digits(number: u32, base: u32) -> [u8; 3]
     places.map(|place| (place % base) as u8)
 }
 
-fn show(rt: &impl Print, label: &str, tried: &[Tried]) -> io::Result<()> {
-    println!(rt;
-        "{label} {} windows 3 best {} differing {}",
-        tried.len(),
-        counts::total(tried, |t| t.best),
-        counts::total(tried, |t| t.differing)
-    )
-}
-
 // A log with levels 0 to 2 under two LOWEST wishes: a row's digit gives both.
-fn try_lowest(alloc: Global, number: u32) -> Result<Tried, AllocError> {
+fn try_lowest(alloc: Global, number: u32) -> Result<Windows, AllocError> {
     let wishes = [(1, trial::lowest(0, 2, 1)), (2, trial::lowest(0, 2, 1))];
     let mut rows = Vec::new(alloc);
     let mut table = Vec::new(alloc);
@@ -41,7 +32,7 @@ fn try_lowest(alloc: Global, number: u32) -> Result<Tried, AllocError> {
 }
 
 // A log with values 0 to 4 under kind 08, wished at 2, and 0 or 1 under LOWEST.
-fn try_pairs(alloc: Global, number: u32) -> Result<Tried, AllocError> {
+fn try_pairs(alloc: Global, number: u32) -> Result<Windows, AllocError> {
     let list = trial::list(&[
         (1, trial::between_trivial(0, 4, 1, 2, 2)),
         (2, trial::lowest(0, 1, 1)),
@@ -51,16 +42,32 @@ fn try_pairs(alloc: Global, number: u32) -> Result<Tried, AllocError> {
     windows::try_windows(alloc, list, &rows, table.as_slice(), &WINDOWS)
 }
 
-pub fn lowest(rt: &(impl Print + AllocGlobal)) -> io::Result<()> {
-    let tried: Vec<Tried> = (0..729)
-        .map(|number| try_lowest(rt.alloc(), number))
-        .try_collect(rt.alloc())?;
-    show(rt, "logs", tried.as_slice())
+// So many logs, each by its number.
+fn show<F: Fn(u32) -> Result<Windows, AllocError>>(
+    rt: &(impl Print + AllocGlobal),
+    label: &str,
+    count: u32,
+    try_log: F,
+) -> io::Result<()>
+    requires { (state : F) (number : _) → F.pre state number }
+{
+    let tried: Vec<Windows> = (0..count).map(try_log).try_collect(rt.alloc())?;
+    let tried = tried.as_slice();
+    println!(rt;
+        "{label} {} windows 3 best {} differing {}",
+        tried.len(),
+        counts::total(tried, |t| t.figures.best),
+        counts::total(tried, |t| t.differing)
+    )
 }
 
-pub fn pairs(rt: &(impl Print + AllocGlobal)) -> io::Result<()> {
-    let tried: Vec<Tried> = (0..1000)
-        .map(|number| try_pairs(rt.alloc(), number))
-        .try_collect(rt.alloc())?;
-    show(rt, "logs of kind 08", tried.as_slice())
+pub fn all(rt: &(impl Print + AllocGlobal)) -> io::Result<()> {
+    let alloc = rt.alloc();
+    show(rt, "logs", 729, |number| try_lowest(alloc, number))?;
+    show(
+        rt,
+        "logs of kind 08",
+        1000,
+        |number| try_pairs(alloc, number),
+    )
 }

@@ -3,13 +3,19 @@ use crate::calls::{self, ENOUGH};
 use preference::PreferenceList;
 use std::alloc::{AllocError, Global};
 use test_support::nested;
-use test_support::room::Room;
+use test_support::room::{Call, Room};
 
-// The shortlisted rows of a log, the compares in all windows, and the windows that differ.
+// The shortlisted rows of a log, and the compares in all windows.
 #[derive(Clone, Copy)]
-pub struct Tried {
+pub struct Figures {
     pub best: usize,
     pub compares: usize,
+}
+
+// What came of a log, and the windows that differ.
+#[derive(Clone, Copy)]
+pub struct Windows {
+    pub figures: Figures,
     pub differing: usize,
 }
 
@@ -20,8 +26,7 @@ pub fn try_windows(
     rows: &[[i32; 8]],
     table: &[Vec<u32>],
     windows: &[u32],
-) -> Result<Tried, AllocError> {
-    let log = rows.as_flattened();
+) -> Result<Windows, AllocError> {
     let due = nested::marks_of(alloc, table)?;
     let marks = due.as_slice();
     let mut compares: usize = 0;
@@ -29,15 +34,25 @@ pub fn try_windows(
     for w in windows {
         let machine = test_model_machine::run(alloc, table, *w as usize)?;
         let count = machine.compares;
+        let call = Call {
+            list,
+            log: rows.as_flattened(),
+            w: *w,
+            room: ENOUGH,
+        };
+        let least = Call {
+            room: Room::least(rows.len(), *w),
+            ..call
+        };
         let agreed = machine.marks == due
-            && calls::leaves(list, log, ENOUGH, *w, Ok(count), marks)
-            && calls::leaves(list, log, Room::least(rows.len(), *w), *w, Ok(count), marks);
+            && calls::leaves(call, Ok(count), marks)
+            && calls::leaves(least, Ok(count), marks);
         compares = compares.saturating_add(count as usize);
         differing = differing.saturating_add(usize::from(!agreed));
     }
-    Ok(Tried {
-        best: marks.iter().filter(|mark| **mark == 1).count(),
-        compares,
+    let best = marks.iter().filter(|mark| **mark == 1).count();
+    Ok(Windows {
+        figures: Figures { best, compares },
         differing,
     })
 }

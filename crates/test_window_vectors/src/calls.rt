@@ -1,9 +1,8 @@
 // A call of the window engine, printed: the compares and the marks, or the refusal and what it changed.
-use preference::PreferenceList;
 use std::fmt::Display;
 use std::io;
 use test_support::lent;
-use test_support::room::{MARK, Room, WORD};
+use test_support::room::{Call, MARK, Room, WORD};
 use test_support::show::{Refused, Spaced};
 
 const MARKS: usize = 5;
@@ -27,20 +26,14 @@ fn show_kept(rt: &impl Print, marks: &[u8], work: &[u32]) -> io::Result<()> {
     println!(rt)
 }
 
-pub fn show<D: Display + Drop>(
-    rt: &impl Print,
-    label: D,
-    list: PreferenceList,
-    log: &[i32],
-    room: Room,
-    w: u32,
-) -> io::Result<()> {
+pub fn show<D: Display + Drop>(rt: &impl Print, label: D, call: Call) -> io::Result<()> {
+    let room = call.room;
     let mut marks = [MARK; MARKS];
     let mut work = [WORD; WORK];
     let lent_marks = &mut marks[..room.marks.min(MARKS)];
     let lent_work = &mut work[..room.work.min(WORK)];
     print!(rt; "{label}: ")?;
-    match window::run(list, log, lent_marks, lent_work, w) {
+    match window::run(call.list, call.log, lent_marks, lent_work, call.w) {
         Ok(n) => {
             println!(rt;
                 "compares {n} marks{}",

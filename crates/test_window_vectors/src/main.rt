@@ -6,7 +6,7 @@ use calls::ENOUGH;
 use preference::PreferenceList;
 use std::io;
 use test_support::lent;
-use test_support::room::Room;
+use test_support::room::{Call, Room};
 use test_support::short_logs::{self, run};
 
 mod calls;
@@ -19,12 +19,16 @@ fn show_small(
     rows: &[[i32; 8]],
     w: u32,
 ) -> io::Result<()> {
-    let list = short_logs::lowest_to(&[greatest, greatest]);
-    let room = Room {
-        marks: rows.len(),
-        work: 16,
+    let call = Call {
+        list: short_logs::lowest_to(&[greatest, greatest]),
+        log: rows.as_flattened(),
+        w,
+        room: Room {
+            marks: rows.len(),
+            work: 16,
+        },
     };
-    calls::show(rt, label, list, rows.as_flattened(), room, w)
+    calls::show(rt, label, call)
 }
 
 // The newest entry compared first makes three compares of the first; 000's release at the end of a pass five of the
@@ -42,9 +46,13 @@ fn small(rt: &impl Print) -> io::Result<()> {
 
 // The least work list that a window of 1 takes.
 fn no_rows(rt: &impl Print) -> io::Result<()> {
-    let list = short_logs::lowest_to(&[2, 2]);
-    let room = Room { marks: 0, work: 2 };
-    calls::show(rt, "P11 no run, w 1", list, &[], room, 1)
+    let call = Call {
+        list: short_logs::lowest_to(&[2, 2]),
+        log: &[],
+        w: 1,
+        room: Room { marks: 0, work: 2 },
+    };
+    calls::show(rt, "P11 no run, w 1", call)
 }
 
 // The Harbour log with room for every window.
@@ -56,8 +64,13 @@ fn show_windows(
 ) -> io::Result<()> {
     let rows = short_logs::harbour();
     for w in windows {
-        let label = format_args!("{label}, w {w}");
-        calls::show(rt, label, list, rows.as_flattened(), ENOUGH, *w)?;
+        let call = Call {
+            list,
+            log: rows.as_flattened(),
+            w: *w,
+            room: ENOUGH,
+        };
+        calls::show(rt, format_args!("{label}, w {w}"), call)?;
     }
     Ok(())
 }
@@ -80,9 +93,13 @@ fn show_lent(
 ) -> io::Result<()> {
     let mut rows = short_logs::harbour();
     rows[1][1] = cubic_metres;
-    let list = short_logs::harbour_list();
-    let room = Room { marks, work };
-    calls::show(rt, label, list, rows.as_flattened(), room, w)
+    let call = Call {
+        list: short_logs::harbour_list(),
+        log: rows.as_flattened(),
+        w,
+        room: Room { marks, work },
+    };
+    calls::show(rt, label, call)
 }
 
 fn rooms(rt: &impl Print) -> io::Result<()> {
@@ -95,10 +112,13 @@ fn rooms(rt: &impl Print) -> io::Result<()> {
 
 fn odd_log(rt: &impl Print) -> io::Result<()> {
     let rows = short_logs::harbour();
-    let odd = lent::front(rows.as_flattened(), 39);
-    let list = short_logs::harbour_list();
-    let room = Room { marks: 5, work: 16 };
-    calls::show(rt, "Harbour log, 39 numbers", list, odd, room, 1)
+    let call = Call {
+        list: short_logs::harbour_list(),
+        log: lent::front(rows.as_flattened(), 39),
+        w: 1,
+        room: Room { marks: 5, work: 16 },
+    };
+    calls::show(rt, "Harbour log, 39 numbers", call)
 }
 
 fn main(rt: HostRuntime) -> io::Result<()> {

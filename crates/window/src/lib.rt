@@ -6,7 +6,7 @@ ghost use Rattle.std.specs.Prelude.{◌≡◌, ◌+◌, ◌*◌, ◌/◌, ◌<�
 ghost use Rattle.limits.specs.Limits.{max_values};
 ghost use Rattle.refusal.specs.Refusal.{refusal_of, outcome_of};
 ghost use Rattle.run_log.specs.Log.{log_of};
-ghost use Rattle.level_table.specs.Table.{table_of, table_length};
+ghost use Rattle.level_table.specs.Table.{table_length};
 ghost use Rattle.pareto.specs.Best.{marks_after};
 ghost use Rattle.pareto.specs.Call.{Leaves};
 ghost use Rattle.window.specs.Engine.{sizes_refusal, machine_of, window_call, WorkLeft, Runnable};
@@ -28,28 +28,9 @@ fn check_sizes(log: &[i32], marks: usize, work: usize, w: u32) -> Result<(), Ref
     Ok(())
 }
 
-// The engine on the level table of what the checks accepted.
-fn run_table(
-    list: PreferenceList,
-    table: &[u16],
-    log: &[i32],
-    marks: &mut [u8],
-    work: &mut [u32],
-    w: u32,
-) -> u32
-    requires runnable { Runnable list (log_of log.now) (length marks.old) (length work.old) w }
-    requires table_value { table.now ≡ table_of list log.now }
-    ensures { (result ≡ (machine_of list (log_of log.now) w).count)
-        × (marks.new ≡ marks_after list (log_of log.now) marks.old) }
-{
-    let mut rows = [0; limits::MAX_RUNS];
-    let count = pareto::competing_rows(log, &mut rows);
-    let n = run_log::row_count(log);
-    window_passes::run_rows(table, &rows[..count], w as usize, &mut marks[..n], work) as u32
-}
-
 // The engine on what the checks accepted, with room for a table of N numbers. The table is not lent to a closure: what
-// a closure leaves in the marks that it captures is not told to its caller.
+// that leaves in marks which it captures is not told to its caller, and to hand it marks and work list beside the table
+// would take a lender of its own.
 fn run_room<const N: usize>(
     list: PreferenceList,
     log: &[i32],
@@ -65,7 +46,9 @@ fn run_room<const N: usize>(
 {
     let mut table = [0u16; N];
     level_table::fill_table(list, log, &mut table[..size]);
-    run_table(list, &table[..size], log, marks, work, w)
+    let rows = pareto::competing_list(log);
+    let n = run_log::row_count(log);
+    window_passes::run_rows(&table[..size], &rows, w as usize, &mut marks[..n], work) as u32
 }
 
 // The same of every log that they accept. Room for a second plane is made only where there is one.
@@ -87,7 +70,8 @@ fn run_accepted(
     run_room::<{ limits::MAX_TABLE }>(list, log, size, marks, work, w)
 }
 
-// Marks the best matches of a log, with a window of w entries. The compares made come back.
+// Marks the best matches of a log, with a window of w entries. The compares made come back. What is lent stands one by
+// one, as document 01 has the call.
 pub fn run(
     list: PreferenceList,
     log: &[i32],

@@ -32,6 +32,16 @@ module _ (p : Test) (l₀ : List ℕ) (n : ℕ) where
   unfolding keep
   keep_no i h q = rw (entries_step l₀ i n h, q)
 
+  -- entry i stays, behind those that stayed before it
+  done_keep : (front front' : List Entry) (i : ℕ) → i < n → p (entry_at l₀ i) ≡ true → front' ≡ front ++ (entry_at l₀ i ∷ [])
+      → front ++ keep p (entries l₀ i (n - i)) ≡ keep p (entries l₀ 0 n)
+      → front' ++ keep p (entries l₀ (i + 1) (n - (i + 1))) ≡ keep p (entries l₀ 0 n)
+  done_keep front front' i h q e d =
+      ap (λ (x : List Entry). x ++ keep p (entries l₀ (i + 1) (n - (i + 1)))) e
+      ∙ append_assoc front (entry_at l₀ i ∷ []) (keep p (entries l₀ (i + 1) (n - (i + 1))))
+      ∙ ap (λ (x : List Entry). front ++ x) (sym (keep_yes i h q))
+      ∙ d
+
   -- the first i entries stay where they are
   pub pack_from : (i : ℕ) → i ≤ n → ((j : ℕ) → j < i → p (entry_at l₀ j) ≡ true) → Packed p l₀ l₀ n i i
   pack_from zero h f = pack_start
@@ -43,11 +53,7 @@ module _ (p : Test) (l₀ : List ℕ) (n : ℕ) where
         within = h;
         long = refl;
         rest = λ j k. refl;
-        done =
-            ap (λ (x : List Entry). x ++ keep p (entries l₀ (suc i) (n - suc i))) (rw (zero-add i) at (entries_snoc l₀ 0 i))
-            ∙ append_assoc (entries l₀ 0 i) (entry_at l₀ i ∷ []) (keep p (entries l₀ (suc i) (n - suc i)))
-            ∙ ap (λ (x : List Entry). entries l₀ 0 i ++ x) (sym (rw e at (keep_yes i h (f i (omega arith)))))
-            ∙ z.done;
+        done = rw e at (done_keep _ _ i h (f i (omega arith)) (rw (zero-add i) at (entries_snoc l₀ 0 i)) z.done);
       }
 
   -- e is the entry at place i, as it was read
@@ -71,12 +77,9 @@ module _ (p : Test) (l₀ : List ℕ) (n : ℕ) where
       long = length_put l m e.row e.timestamp ∙ z.long;
       rest = λ j k. put_other l m e.row e.timestamp j (omega (arith, z.ordered)) ∙ z.rest j (omega arith);
       done =
-          ap (λ (x : List Entry). x ++ keep p (entries l₀ (i + 1) (n - (i + 1))))
-          (entries_put0 l m e.row e.timestamp (omega (arith, z.long, z.ordered)))
-          ∙ append_assoc (entries l 0 m) (e ∷ []) (keep p (entries l₀ (i + 1) (n - (i + 1))))
-          ∙ ap (λ (x : Entry). entries l 0 m ++ (x ∷ keep p (entries l₀ (i + 1) (n - (i + 1))))) read_is
-          ∙ ap (λ (x : List Entry). entries l 0 m ++ x) (sym (keep_yes i h (ap p (sym read_is) ∙ q)))
-          ∙ z.done;
+          done_keep _ _ i h (ap p (sym read_is) ∙ q)
+          (entries_put0 l m e.row e.timestamp (omega (arith, z.long, z.ordered)) ∙ ap (λ (x : Entry). entries l 0 m ++ (x ∷ [])) read_is)
+          z.done;
     }
 
   pub pack_end : {l : List ℕ} {i m : ℕ} → n ≤ i → Packed p l₀ l n i m → entries l 0 m ≡ keep p (entries l₀ 0 n)

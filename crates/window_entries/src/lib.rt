@@ -40,6 +40,12 @@ pub fn put_entry(work: &mut [u32], i: usize, entry: Entry)
 
 // ---- entries taken out
 
+// The work list and its occupied entries stand apart: the machine keeps both among what else it holds, so a
+// struct of the two would be made and taken apart again at every call. `Window` of `window_step` is such a
+// struct, but it only reads, and these write. Entries go by number: one is stored before the place that it is
+// read from, in the same lent list, which no iterator allows. They are two loops: one that is handed what to
+// do with a row that goes, as a closure, would not tell what that left in the marks.
+
 // Removes the entries that the row dominates by their flags, from one entry on; how many stay comes back.
 pub fn remove(flags: &[Relation], work: &mut [u32], from: usize, occupied: usize) -> usize
     requires { Holds work.old occupied × (from ≤ occupied) × (occupied ≤ length flags.now) }

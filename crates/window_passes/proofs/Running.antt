@@ -15,6 +15,10 @@ use Rattle.window_passes.specs.Passes.{PassReady, Passed, RunReady, PassesRan}
 abbrev pub after : ℕ → ℕ → Machine → State
 after fuel n m = passes (dominates_in m) m.capacity fuel (entries m.work.now m.capacity n) (state_held m)
 
+-- what is told of a state at the end: its count and its marks
+abbrev told : State → ℕ × List ℕ
+told st = (st.count, st.marks)
+
 -- `left` passes may still come, over the entries that wait now
 pub record Running (n fuel : ℕ) (m m' : Machine) (left waiting : ℕ) : Type 0 where
   pub same : Same m m'
@@ -23,20 +27,14 @@ pub record Running (n fuel : ℕ) (m m' : Machine) (left waiting : ℕ) : Type 0
   pub fewer : waiting ≤ n
   pub early : m'.standing.clock + 1024 * left ≤ 1024 * fuel
   pub small : m'.standing.count + 1048576 * left ≤ 1048576 * fuel
-  pub counts : (after left waiting m').count ≡ (after fuel n m).count
-  pub makes : (after left waiting m').marks ≡ (after fuel n m).marks
+  pub ends_alike : told (after left waiting m') ≡ told (after fuel n m)
 
 module _ (dom : ℕ → ℕ → Bool) (w : ℕ) where
   -- a new pass forgets what was set aside
-  renew_count : (f : ℕ) (xs : List Entry) (st : State) → (passes dom w f xs (renew st)).count ≡ (passes dom w f xs st).count
+  renew_alike : (f : ℕ) (xs : List Entry) (st : State) → told (passes dom w f xs (renew st)) ≡ told (passes dom w f xs st)
   unfolding passes renew
-  renew_count zero xs st = refl
-  renew_count (suc f) xs st = refl
-
-  renew_marks : (f : ℕ) (xs : List Entry) (st : State) → (passes dom w f xs (renew st)).marks ≡ (passes dom w f xs st).marks
-  unfolding passes renew
-  renew_marks zero xs st = refl
-  renew_marks (suc f) xs st = refl
+  renew_alike zero xs st = refl
+  renew_alike (suc f) xs st = refl
 
   passes_step : (f g : ℕ) (xs : List Entry) (st : State) → f ≡ suc g →
       passes dom w f xs st
@@ -82,8 +80,7 @@ module _ {n fuel : ℕ} {m : Machine} (g : RunReady n fuel m) where
     fewer = omega arith;
     early = omega (arith, ap (λ (p : Standing). p.clock) g.zeros);
     small = omega (arith, ap (λ (p : Standing). p.count) g.zeros);
-    counts = refl;
-    makes = refl;
+    ends_alike = refl;
   }
 
   module _ {m₁ : Machine} {left waiting : ℕ} (z : Running n fuel m m₁ left waiting) where
@@ -101,11 +98,13 @@ module _ {n fuel : ℕ} {m : Machine} (g : RunReady n fuel m) where
       pub running_last : m₂.standing.overflow ≡ 0 → m₃.marks.now ≡ marked (entries m₂.work.now 0 m₂.standing.occupied) m₂.marks.now
           → m₃.standing.count ≡ m₂.standing.count → PassesRan n fuel m m₃
       unfolding finish state_of
-      running_last o d c = record {
-        marks_same = s.marks ∙ t.same.marks ∙ z.same.marks;
-        count_is = c ∙ ap (λ (st : State). st.count) (sym (ends z.none h t o)) ∙ z.counts;
-        marks_are = d ∙ ap (λ (st : State). st.marks) (sym (ends z.none h t o)) ∙ z.makes;
-      }
+      running_last o d c =
+          let e = ap told (sym (ends z.none h t o)) ∙ z.ends_alike in
+          record {
+            marks_same = s.marks ∙ t.same.marks ∙ z.same.marks;
+            count_is = c ∙ ap (λ (x : ℕ × List ℕ). x.0) e;
+            marks_are = d ∙ ap (λ (x : ℕ × List ℕ). x.1) e;
+          }
 
       pub running_more : 0 < m₂.standing.overflow → m₃.work.now ≡ m₂.work.now → m₃.marks.now ≡ m₂.marks.now
           → m₃.standing ≡ record m₂.standing { overflow = 0 } → Running n fuel m m₃ (left - 1) m₂.standing.overflow
@@ -117,14 +116,10 @@ module _ {n fuel : ℕ} {m : Machine} (g : RunReady n fuel m) where
         fewer = omega (arith, t.few, z.fewer);
         early = omega (arith, t.ticks, z.early, g.rows, z.fewer, ap (λ (p : Standing). p.clock) p);
         small = omega (arith, t.small, z.small, g.rows, z.fewer, ap (λ (p : Standing). p.count) p);
-        counts =
-            ap (λ (st : State). st.count) renews
-            ∙ renew_count (dominates_in m₂) m₂.capacity (left - 1) (entries m₂.work.now m₂.capacity m₂.standing.overflow) (state_held m₂)
-            ∙ ap (λ (st : State). st.count) (sym (goes_on z.none h t o)) ∙ z.counts;
-        makes =
-            ap (λ (st : State). st.marks) renews
-            ∙ renew_marks (dominates_in m₂) m₂.capacity (left - 1) (entries m₂.work.now m₂.capacity m₂.standing.overflow) (state_held m₂)
-            ∙ ap (λ (st : State). st.marks) (sym (goes_on z.none h t o)) ∙ z.makes;
+        ends_alike =
+            ap told renews
+            ∙ renew_alike (dominates_in m₂) m₂.capacity (left - 1) (entries m₂.work.now m₂.capacity m₂.standing.overflow) (state_held m₂)
+            ∙ ap told (sym (goes_on z.none h t o)) ∙ z.ends_alike;
       }
         where
           renews : after (left - 1) m₂.standing.overflow m₃
@@ -133,7 +128,10 @@ module _ {n fuel : ℕ} {m : Machine} (g : RunReady n fuel m) where
 
     pub running_out : left ≤ 0 → PassesRan n fuel m m₁
     unfolding passes state_of
-    running_out h = let o : left ≡ 0 = omega arith in record { marks_same = z.same.marks; count_is = rw o at z.counts; marks_are = rw o at z.makes }
+    running_out h =
+        let o : left ≡ 0 = omega arith in
+        let e = rw o at z.ends_alike in
+        record { marks_same = z.same.marks; count_is = ap (λ (x : ℕ × List ℕ). x.0) e; marks_are = ap (λ (x : ℕ × List ℕ). x.1) e }
 
 -- what the passes over rows that wait leave is the machine's result
 module _ (n : ℕ) (rows : List ℕ) {m m' : Machine} (z : PassesRan (length rows) (length rows * length rows + 1) m m')

@@ -14,7 +14,7 @@ use pareto::Relation;
 use window_entries::Entry;
 use window_step::{Machine, Standing};
 
-// Reads the n entries that wait.
+// Reads the n entries that wait. By number: a read may store into the list that they stand in.
 fn one_pass(machine: &mut Machine, n: usize)
     requires { PassReady n machine.old × Ordered (state_held machine.old) }
     ensures { Passed n machine.old machine.new }
@@ -25,7 +25,7 @@ fn one_pass(machine: &mut Machine, n: usize)
     }
 }
 
-// Releases the whole window.
+// Releases the whole window. As a method of the machine, in line or not, it cost a call 0.7 to 2 % more instructions.
 #[tactic(auto, using(window_entries::specs::Laws::Entries::mark_all_end))]
 fn release_all(work: &[u32], occupied: usize, marks: &mut [u8])
     requires { Holds work.now occupied }
@@ -58,7 +58,7 @@ fn all_passes(machine: &mut Machine, n: usize, fuel: usize)
 
 // ---- the machine on rows of a table
 
-// These rows wait, from entry w on.
+// These rows wait, from entry w on. By number: of what `chunks_exact_mut` has lent a proof knows no number afterwards.
 #[tactic(auto, using(crate::proofs::Rows::rows_none, crate::proofs::Rows::rows_more))]
 fn fill_waiting(work: &mut [u32], w: usize, rows: &[usize])
     requires { Waits w rows.now (length work.old) }

@@ -57,8 +57,12 @@ impl Machine<'_> {
         let flags = &mut *self.flags;
         let occupied = self.standing.occupied;
         self.standing.clock += 1;
-        let window = Window { work, occupied };
-        let left = match window.scan(self.table, row, flags) {
+        let window = Window {
+            table: self.table,
+            work,
+            occupied,
+        };
+        let left = match window.scan(row, flags) {
             Verdict::Dropped { compares } => {
                 self.standing.count += compares;
                 return;

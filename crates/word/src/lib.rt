@@ -5,7 +5,7 @@
 ghost use Rattle.std.specs.Prelude.{◌≡◌, set};
 ghost use Rattle.word.specs.Word.{word_at, int_at};
 
-/// Stores x at a place of a lent list.
+/// Stores x at a place of a lent list. By hand: after a `get_mut` a proof knows the length alone.
 pub fn put<T: Copy>(xs: &mut [T], at: usize, x: T)
     ensures { xs.new ≡ set xs.old at x }
 {

@@ -1,7 +1,8 @@
 -- Laws of the gap: its order, and that it is the difference and the distance that document 01 writes.
 use Rattle.std.specs.Prelude.{◌≡◌, refl, ℕ, zero, suc, ◌+◌, ◌-◌, ◌<◌, ◌≤◌, Bool, true, false, cond, ltb, ℤ, pos, negsuc, ◌-ℤ◌, nat_abs}
 use Rattle.std.proofs.Common.{sym, ◌∙◌, arith, le_trans, le_of_lt, leb-true, leb-false, ltb-true, ltb-false, le-leb}
-use Rattle.std.specs.Int.Signed.{le_z}
+use Rattle.std.specs.Int.Signed.{le_z, mag}
+use Rattle.std.specs.Int.{int_max}
 use Rattle.laws.specs.Laws.Bools.{false_true}
 use Rattle.arith.specs.Gap.{gap, clip}
 
@@ -69,6 +70,13 @@ through (negsuc a) (pos b) c h k = false_true h
 through (negsuc a) (negsuc b) (pos c) h k = false_true k
 through (negsuc a) (negsuc b) (negsuc c) h k = let l = leb-true a b h in let m = leb-true b c k in omega arith
 
+small : (a b : ℤ) → mag a < 2147483648 → mag b < 2147483648 → flat a b < 4294967296
+unfolding flat
+small (pos a) (pos b) h k = omega arith
+small (pos a) (negsuc b) h k = omega arith
+small (negsuc a) (pos b) h k = omega arith
+small (negsuc a) (negsuc b) h k = omega arith
+
 -- ---- the order of signed numbers
 
 pub le_refl_z : (a : ℤ) → le_z a a ≡ true
@@ -107,6 +115,10 @@ gap_down a b c h = omega (arith, gap_flat c b, gap_flat c a, down a b c h)
 -- down from a to b, and from there down to c
 pub gap_through : (a b c : ℤ) → le_z b a ≡ true → le_z c b ≡ true → gap a b + gap b c ≡ gap a c
 gap_through a b c h k = omega (arith, gap_flat a b, gap_flat b c, gap_flat a c, through a b c h k)
+
+-- the gap of two i32 fits 32 bits
+pub gap_small : (a b : ℤ) → mag a < 2147483648 → mag b < 2147483648 → gap a b < 4294967296
+gap_small a b h k = rw (gap_flat a b) (small a b h k)
 
 -- how far v lies outside low..up is one gap
 module _ (low up v : ℤ) (m : ℕ) (below : gap low v < m) (above : gap v up < m) (across : gap low up < m) where
@@ -149,3 +161,16 @@ abs_flat (negsuc a) (negsuc b) = sub_abs (suc b) (suc a) (ltb (suc b) (suc a)) r
 
 pub gap_abs : (a b : ℤ) → nat_abs (a -ℤ b) ≡ gap a b + gap b a
 gap_abs a b = abs_flat a b ∙ rw (gap_flat a b, gap_flat b a)
+
+-- as the code has it: the difference, no less than 0, without its sign
+max_of : (n : ℕ) (t : Bool) → ltb 0 n ≡ t → nat_abs (cond t (pos n) (pos 0)) ≡ n
+max_of n true e = refl
+max_of n false e = let h = ltb-false 0 n e in omega arith
+
+max_clip : (z : ℤ) → nat_abs (int_max z (pos 0)) ≡ clip z
+max_clip (pos n) = max_of n (ltb 0 n) refl
+max_clip (negsuc n) = refl
+
+pub gap_max : (a b : ℤ) → nat_abs (int_max (a -ℤ b) (pos 0)) ≡ gap a b
+unfolding gap
+gap_max a b = max_clip (a -ℤ b)

@@ -1,6 +1,6 @@
 use Rattle.std.specs.Prelude.{length}
 use Rattle.std.proofs.Common.{ap}
-use Rattle.std.proofs.lemmas.Result.{err_from_is_err_and}
+use Rattle.selection.specs.Laws.Exit.{exit}
 use Rattle.run_log.specs.Log.{log_of}
 use Rattle.pareto.specs.Call.{counting}
 use Rattle.lattice.specs.Engine.{lattice_call}
@@ -10,8 +10,7 @@ use Rattle.console.proofs.by_lattice.Goals as goal
 pub returns-in_err-held : goal.returns-in_err-held
 returns-in_err-held c =
     let a = c.args in
-    let p = err_from_is_err_and c.from_residual.result c.from_residual.ensures.1 in
-    rw (p.1, p.2)
+    rw (exit c.from_residual.result _ c.from_residual.ensures.1)
     (stream_refused a.stream.now (λ l log. counting (lattice_call l log (length a.marks.now) 32768 a.budget)) a.marks.now _
     c.in_err-held.ensures.refused)
 

@@ -1,23 +1,22 @@
 use Rattle.std.specs.Prelude.{length}
 use Rattle.std.proofs.Common.{ap}
-use Rattle.std.proofs.lemmas.Result.{err_from_is_err_and}
+use Rattle.selection.specs.Laws.Exit.{exit}
 use Rattle.run_log.specs.Log.{log_of}
 use Rattle.pareto.specs.Call.{counting}
 use Rattle.window.specs.Engine.{window_call}
 use Rattle.selection.specs.Laws.Stream.{stream_refused, stream_read}
 use Rattle.console.proofs.by_window.Goals as goal
 
-pub returns-in_err-found : goal.returns-in_err-found
-returns-in_err-found c =
+pub returns-in_err-held : goal.returns-in_err-held
+returns-in_err-held c =
     let a = c.args in
-    let p = err_from_is_err_and c.from_residual.result c.from_residual.ensures.1 in
-    rw (p.1, p.2)
+    rw (exit c.from_residual.result _ c.from_residual.ensures.1)
     (stream_refused a.stream.now (λ l log. counting (window_call l log (length a.marks.now) 4096 a.w)) a.marks.now _
-    c.in_err-found.ensures.refused)
+    c.in_err-held.ensures.refused)
 
 pub returns : goal.returns
 returns c =
     let a = c.args in
-    let h = c.in_ok-found.ensures.held in
+    let h = c.in_ok-held.ensures.held in
     stream_read a.stream.now (λ l log. counting (window_call l log (length a.marks.now) 4096 a.w)) a.marks.now _ _ _ _
-    c.in_ok-found.ensures.refused h.0 (ap log_of h.1) c.by_window.ensures
+    c.in_ok-held.ensures.refused h.0 (ap log_of h.1) c.by_window.ensures

@@ -1,7 +1,7 @@
 -- Sides in document 02's words, form by form, and the parts of a pair (000, Theorem 16; 003, Theorem 2).
 use Rattle.std.proofs.Math.Path.{◌≡◌, refl, sym}
 use Rattle.std.proofs.Common.{ap, ◌∙◌, arith}
-use Rattle.std.specs.Prelude.{ℕ, zero, suc, ◌+◌, ◌<◌, ◌≤◌, Bool, [], ◌∷◌, ℤ, get_or, length}
+use Rattle.std.specs.Prelude.{ℕ, zero, suc, ◌+◌, ◌<◌, ◌≤◌, Bool, [], ◌∷◌, ℤ, get_or, length, Some, None}
 use Rattle.std.proofs.Math.Bool.{true, false, cond}
 use Rattle.std.specs.Int.Signed.{le_z, mag}
 use Rattle.arith.specs.Gap.{gap}
@@ -9,7 +9,7 @@ use Rattle.arith.specs.Ceil.{ceil_div}
 use Rattle.arith.specs.Laws.Gap.{gap_none, gap_some, le_refl_z}
 use Rattle.arith.specs.Laws.Ceil.{ceil_none}
 use Rattle.constructor.specs.Level.{distance, scale_of, target_of, numeric_level, max_level}
-use Rattle.constructor.specs.Side.{side_by, side_of, is_pair, pair_of, parts_of, tops_of, part_in}
+use Rattle.constructor.specs.Side.{side_by, side_of, is_pair, pair_of, parts_of, tops_of, part_in, half_of, part_by}
 use Rattle.constructor.specs.Laws.Papers.{level_best}
 use Rattle.constructor.specs.Laws.Target.{least_below, greatest_above, distance_outside}
 use Rattle.constructor.specs.declared.Constructor.{Constructor}
@@ -196,3 +196,13 @@ parts_at c level s h l = go (is_pair c) h l
     go true h l = refl
     go false zero l = refl
     go false (suc h) l = absurd (omega arith)
+
+-- a pair and its half, taken as one
+pub part_by_half : (pair : Bool) (half level : ℕ) (s : Side)
+    → part_by (cond pair (Some half) None) level s ≡ part_in pair half level s
+part_by_half true half level s = refl
+part_by_half false half level s = refl
+
+pub part_by_in : (c : Constructor) (half level : ℕ) (s : Side)
+    → part_by (half_of c half) level s ≡ part_in (is_pair c) half level s
+part_by_in c half level s = part_by_half (is_pair c) half level s

@@ -15,8 +15,8 @@ use Rattle.stream_format.specs.Read.{with_record}
 use Rattle.stream_format.specs.Read.{step, start, records, end_refusal, finish, read_of}
 use Rattle.stream_format.specs.Write.{write_refusal}
 use Rattle.stream_format.specs.Laws.Read.{step_keeps, steps_keep}
-use Rattle.stream_format.specs.declared.Class.{Class}
-use Rattle.stream_format.specs.declared.Class.TheVariants.{Unknown, PreferenceRecord, NamedRecord, RunRecord}
+use Rattle.stream_format.specs.Kinds.{Class}
+use Rattle.stream_format.specs.Kinds.{Unknown, PreferenceRecord, NamedRecord, RunRecord}
 use Rattle.stream_format.specs.ReadAnswer.{ReadAnswer}
 use Rattle.lattice.specs.Engine.{lattice_refusal}
 use Rattle.lattice.specs.Laws.Checked.{marks_among}

@@ -1,30 +1,36 @@
-use Rattle.std.specs.Prelude.{◌≡◌, ℕ}
-use Rattle.std.specs.Option.{unwrap_or}
+use Rattle.std.specs.Prelude.{◌≡◌, ℕ, ◌<◌, Option, Some, None}
+use Rattle.std.specs.Option.{unwrap_or, ok_or}
 use Rattle.std.proofs.Common.{rules, sym, ◌∙◌, arith, refl}
-use Rattle.std.proofs.lemmas.Result.{err_from_is_err_and}
 use Rattle.laws.specs.Laws.Checks.{then_none}
 use Rattle.refusal.specs.Laws.Refusal.{number_some}
+use Rattle.refusal.specs.declared.Refusal.TheVariants.{Shortlisted}
 use Rattle.preference.specs.Valid.{list_refusal}
 use Rattle.run_log.specs.Log.{log_of, row_count}
+use Rattle.pareto.specs.Checked.{checked_refusal}
 use Rattle.pareto.specs.Laws.Checked.{refused_first, by_rows}
-use Rattle.dominator.specs.First.{first_dominator, dominator_or}
+use Rattle.dominator.specs.First.{first_dominator, dominator_or, RowAsked}
 use Rattle.dominator.specs.Laws.First.{some_found, none_found}
-use Rattle.dominator.specs.Laws.Answer.{refused, no_row, accepted, beaten, shortlisted}
+use Rattle.dominator.specs.Engine.{Answered}
+use Rattle.dominator.specs.Laws.Answer.{exit, no_row, accepted, beaten, shortlisted}
+use Rattle.dominator.proofs.of.Goals.{Else-row_count-asked, In_ok-first}
 use Rattle.dominator.proofs.of.Goals as goal
+
+-- the checks up to 8 have passed, and the asked row is one of the log's
+asked : (c : Else-row_count-asked) → let log = log_of c.args.log.now in
+    (0 ≡ checked_refusal c.args.list log 0) × RowAsked c.args.list log c.args.row
+asked c =
+    let z = by_rows c.args.list (log_of c.args.log.now) 0 _ c.in_ok-check.ensures refl c.in_ok-check_rows.ensures in
+    (z, accepted _ _ c.args.row 0 z refl (search rules))
 
 pub returns-in_err-check : goal.returns-in_err-check
 returns-in_err-check c =
-    let a = c.args in
-    let log = log_of a.log.now in
-    let p = err_from_is_err_and c.from_residual.result c.from_residual.ensures.1 in
-    rw (p.1, p.2) (refused a.list log a.row _ refl _ (refused_first a.list log 0 _ c.in_err-check.ensures))
+    exit _ _ c.args.row _ (refused_first _ (log_of c.args.log.now) 0 _ c.in_err-check.ensures)
+    _ _ c.from_residual.ensures.1 refl
 
 pub returns-in_err-check_rows : goal.returns-in_err-check_rows
 returns-in_err-check_rows c =
-    let a = c.args in
-    let log = log_of a.log.now in
-    let p = err_from_is_err_and c.from_residual-in_err-check_rows.result c.from_residual-in_err-check_rows.ensures.1 in
-    rw (p.1, p.2) (refused a.list log a.row _ refl _ (by_rows a.list log 0 _ c.in_ok-check.ensures refl c.in_err-check_rows.ensures))
+    exit _ _ c.args.row _ (by_rows _ (log_of c.args.log.now) 0 _ c.in_ok-check.ensures refl c.in_err-check_rows.ensures)
+    _ _ c.from_residual-in_err-check_rows.ensures.1 refl
 
 pub returns-then-row_count-asked : goal.returns-then-row_count-asked
 returns-then-row_count-asked c =
@@ -34,9 +40,7 @@ returns-then-row_count-asked c =
 
 pub lend_table-requires : goal.lend_table-requires
 lend_table-requires c =
-    let a = c.args in
-    let log = log_of a.log.now in
-    let g = accepted a.list log a.row 0 (by_rows a.list log 0 _ c.in_ok-check.ensures refl c.in_ok-check_rows.ensures) refl (search rules) in
+    let g = (asked (goal.at.lend_table-requires c).Else-row_count-asked).1 in
     record { callable = λ z p e. search rules }
 
 -- the table of a log that the checks accepted is always lent
@@ -45,29 +49,36 @@ returns-in_err-first c =
     let z = (then_none (list_refusal c.args.list) _ (sym c.in_ok-check.ensures)).1 in
     absurd (number_some _ (c.in_err-first.ensures.refused ∙ z))
 
-pub overflow_cast-result : goal.overflow_cast-result
-overflow_cast-result c =
-    let a = c.args in
-    let log = log_of a.log.now in
-    let g = accepted a.list log a.row 0 (by_rows a.list log 0 _ c.in_ok-check.ensures refl c.in_ok-check_rows.ensures) refl (search rules) in
-    let e : (none : ℕ) → unwrap_or c.in_ok-first.first none ≡ dominator_or a.list log a.row none = search rules in
-    let s = some_found (row_count a.log.now) (first_dominator a.list log a.row) c.in-Some.best (λ none. rw c.in-Some.is at e none) in
-    omega (arith, g.few, s.0, s.1)
+-- what the search found
+told : (c : In_ok-first) (none : ℕ)
+    → unwrap_or c.in_ok-first.first none ≡ dominator_or c.args.list (log_of c.args.log.now) c.args.row none
+told c = search rules
 
-pub returns-in-Some : goal.returns-in-Some
-returns-in-Some c =
-    let a = c.args in
-    let log = log_of a.log.now in
-    let e : (none : ℕ) → unwrap_or c.in_ok-first.first none ≡ dominator_or a.list log a.row none = search rules in
-    let s = some_found (row_count a.log.now) (first_dominator a.list log a.row) c.in-Some.best (λ none. rw c.in-Some.is at e none) in
-    beaten a.list log a.row 0 (by_rows a.list log 0 _ c.in_ok-check.ensures refl c.in_ok-check_rows.ensures) refl (search rules)
-    c.in-Some.best s.1 (rw s.1 s.0)
+found : (c : In_ok-first) (best : ℕ) → c.in_ok-first.first ≡ Some best
+    → let k = first_dominator c.args.list (log_of c.args.log.now) c.args.row in (k < row_count c.args.log.now) × (best ≡ k)
+found c best e =
+    some_found (row_count c.args.log.now) (first_dominator c.args.list (log_of c.args.log.now) c.args.row) best
+    (λ none. rw e at (told c none))
 
-pub returns-in-None : goal.returns-in-None
-returns-in-None c =
-    let a = c.args in
-    let log = log_of a.log.now in
-    let e : (none : ℕ) → unwrap_or c.in_ok-first.first none ≡ dominator_or a.list log a.row none = search rules in
-    let n = none_found (row_count a.log.now) (first_dominator a.list log a.row) (λ none. rw c.in-None.is at e none) in
-    shortlisted a.list log a.row 0 (by_rows a.list log 0 _ c.in_ok-check.ensures refl c.in_ok-check_rows.ensures) refl (search rules)
-    _ refl n
+pub map-requires : goal.map-requires
+map-requires c =
+    let g = (asked (goal.at.map-requires c).Else-row_count-asked).1 in
+    λ x e.
+    let s : x < 4294967296 = let f = found c x e in omega (arith, g.few, f.0, f.1) in
+    search rules
+
+answered : (c : In_ok-first) (first : Option ℕ) → c.in_ok-first.first ≡ first
+    → Answered c.args.list (log_of c.args.log.now) c.args.row (ok_or first Shortlisted)
+answered c (Some best) e =
+    let f = found c best e in
+    let a = asked (goal.at.map-requires c).Else-row_count-asked in
+    beaten _ _ c.args.row 0 a.0 refl a.1.is_row best f.1 (rw f.1 f.0)
+answered c None e =
+    let n = none_found (row_count c.args.log.now) (first_dominator c.args.list (log_of c.args.log.now) c.args.row) (λ none. rw e at (told c none)) in
+    let a = asked (goal.at.map-requires c).Else-row_count-asked in
+    shortlisted _ _ c.args.row 0 a.0 refl a.1.is_row _ refl n
+
+pub returns : goal.returns
+returns c =
+    let same : c.map.result ≡ c.in_ok-first.first = search rules in
+    rw (c.ok_or.ensures.value, same) (answered (goal.at.returns c).In_ok-first _ refl)

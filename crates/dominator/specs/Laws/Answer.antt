@@ -1,5 +1,7 @@
 -- The ways of a call.
-use Rattle.std.specs.Prelude.{Ok, Err, ◌≡◌, ℕ, ◌<◌, ◌≤◌, Bool, ◌&&◌, leb}
+use Rattle.std.specs.Result.{IsErrAnd}
+use Rattle.std.proofs.lemmas.Result.{err_from_is_err_and}
+use Rattle.std.specs.Prelude.{Result, Ok, Err, ◌≡◌, ℕ, ◌<◌, ◌≤◌, Bool, ◌&&◌, leb}
 use Rattle.std.proofs.Math.Path.{refl, sym}
 use Rattle.std.proofs.Common.{◌∙◌, arith, le-leb}
 use Rattle.std.proofs.Math.Bool.{true, false}
@@ -28,6 +30,11 @@ module _ (l : PreferenceList) (log : Log) (row k : ℕ) (e : k ≡ checked_refus
   pub refused : (r : Refusal) → number r ≡ k → Answered l log row (Err r)
   unfolding dominator_refusal Answered
   refused r h = record { refusal = then_err r (checked_refusal l log 0) _ (h ∙ e); some = number_some r }
+
+  -- the exit of a `?` behind a check that refuses
+  pub exit : (answer : Result ℕ Refusal) (r : Refusal) → IsErrAnd answer (λ y. y ≡ r) → number r ≡ k
+      → Answered l log row answer
+  exit answer r x h = let p = err_from_is_err_and answer x in rw (p.1, p.2) (refused r h)
 
   pub no_row : k ≡ 0 → row_count log.values ≤ row → Answered l log row (Err NoSuchRow)
   unfolding dominator_refusal Answered ◌gives◌

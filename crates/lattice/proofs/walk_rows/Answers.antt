@@ -11,6 +11,3 @@ ids_are c = search rules
 pub settle-requires-clause-marks_len : goal.settle-requires-clause-marks_len
 settle-requires-clause-marks_len c =
     let e = ids_are (goal.at.settle-requires-clause-marks_len c).After-deref in rw (e, nodes_long) c.requires.marks_len
-
-pub returns : goal.returns
-returns c = let e = ids_are (goal.at.returns c).After-deref in search rules

@@ -1,12 +1,11 @@
 use Rattle.std.proofs.Common.{◌≡◌, ℕ, ◌+◌, ◌-◌, ◌<◌, ◌≤◌, Bool, true, false, cond, List, [], ◌++◌, Result, Ok, Err, refl, sym, ◌∙◌, append-nil, arith, ltb, lt-ltb, le-ltb, length, take, drop, length-append}
 use Rattle.std.proofs.Math.Nat.{add-sub_cancel_left}
 use Rattle.std.specs.Result.{is_ok}
-use Rattle.std.proofs.lemmas.Result.{err_from_is_err_and}
 use Rattle.lattice_nodes.specs.Steps.{stretch, first_reached, row_edges}
 use Rattle.lattice_stretch.specs.declared.Budget.{Budget}
 use Rattle.lattice_stretch.specs.declared.OverBudget.{OverBudget}
 use Rattle.lattice_stretch.specs.Crossed.{Crosses}
-use Rattle.lattice_stretch.specs.Laws.Crossing.{none_crossed, kept, cut_off, then_more}
+use Rattle.lattice_stretch.specs.Laws.Crossing.{exit, none_crossed, kept, cut_off, then_more}
 use Rattle.lattice_crossing.proofs.cross_row.Goals as goal
 
 module _ (w a : ℕ) (nodes : List ℕ) (f : ℕ) (e : f ≡ first_reached (take (a + w - a) (drop a nodes))) where
@@ -51,8 +50,7 @@ returns-then-f-w c = rw (none _ _ _ _ c.first_reached-f.ensures c.if-f-w.true) (
 
 pub returns-in_err-along : goal.returns-in_err-along
 returns-in_err-along c =
-    let p = err_from_is_err_and c.from_residual.result c.from_residual.ensures.1 in
-    rw p.1 (stops _ _ _ _ c.first_reached-f.ensures _ _ _ c.in_err-along.ensures refl _)
+    exit _ _ c.from_residual.ensures.1 (stops _ _ _ _ c.first_reached-f.ensures _ _ _ c.in_err-along.ensures refl _)
 
 pub returns-then-nodes-end : goal.returns-then-nodes-end
 returns-then-nodes-end c = last _ _ _ _ c.first_reached-f.ensures _ _ _ c.in_ok-along.ensures c.if-nodes-end.true

@@ -3,7 +3,8 @@ use Rattle.std.specs.Prelude.{◌≡◌, leb, refl, true, false, Result, Ok, Err
 use Rattle.std.proofs.Common.{sym, ap, ◌∙◌, add-zero, arith, le-leb, leb-false, leb-true, length-append}
 use Rattle.std.proofs.lemmas.Bool.{lt-leb}
 use Rattle.std.proofs.lemmas.List.{length-map}
-use Rattle.std.proofs.lemmas.Result.{IfOk-weaker}
+use Rattle.std.specs.Result.{IsErrAnd}
+use Rattle.std.proofs.lemmas.Result.{IfOk-weaker, err_from_is_err_and}
 use Rattle.laws.specs.Laws.Bools.{false_true, both_ways}
 use Rattle.lattice_nodes.specs.Steps.{shifted, updated, entered_byte}
 use Rattle.lattice_nodes.specs.Laws.Some.{All}
@@ -35,6 +36,10 @@ none_crossed budget nodes = went_through [] budget nodes nodes budget (add-zero 
 module _ (xs : List ℕ) (budget : Budget) (before after : List ℕ) (r : Result Budget OverBudget)
     (c : Crosses xs budget before after r)
   where
+    -- the crossings made were there to make
+    pub paid_for : (rest : Budget) → r ≡ Ok rest → rest.left ≤ budget.left
+    paid_for rest e = omega (arith, rw e at c.counted)
+
     pub kept : is_ok r ≡ true → length after ≡ length before
     kept t = ap length (c.entered t) ∙ length_updated entered_byte xs before
 
@@ -52,6 +57,11 @@ module _ (xs : List ℕ) (budget : Budget) (before after : List ℕ) (r : Result
         → Crosses ys budget before after' (Err e)
     cut_off t e ys after' h =
         ran_out ys budget before after' e (omega (arith, leb-false (length xs) budget.left (sym c.enough ∙ t)))
+
+-- the exit of a `?` behind edges that the budget is not enough for
+pub exit : {xs : List ℕ} {budget : Budget} {before after : List ℕ} (r : Result Budget OverBudget) (e : OverBudget)
+    → IsErrAnd r (λ y. y ≡ e) → Crosses xs budget before after (Err e) → Crosses xs budget before after r
+exit r e x c = let p = err_from_is_err_and r x in rw (p.1, p.2) c
 
 -- one list of edges and then another
 module _ (xs : List ℕ) (budget rest : Budget) (before after : List ℕ) (c : Crosses xs budget before after (Ok rest))

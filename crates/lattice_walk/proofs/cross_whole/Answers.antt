@@ -9,7 +9,6 @@ use lib.ListN.{length, get_or, drop, length-append, drop_of_length-le}
 use lib.Seq.{drop-cons}
 use Rattle.std.proofs.Common.{Result, Ok, Err}
 use Rattle.std.specs.Result.{is_ok}
-use Rattle.std.proofs.lemmas.Result.{err_from_is_err_and}
 use Rattle.lattice_nodes.specs.Lattice.{node_count}
 use Rattle.lattice_nodes.specs.Steps.{Weights, part_edges, trail}
 use Rattle.lattice_nodes.specs.Laws.Ids.{nodes_some}
@@ -19,7 +18,7 @@ use Rattle.lattice_nodes.specs.Laws.Whole.{all_parts, whole_walked}
 use Rattle.lattice_stretch.specs.declared.Budget.{Budget}
 use Rattle.lattice_stretch.specs.declared.OverBudget.{OverBudget}
 use Rattle.lattice_stretch.specs.Crossed.{Crosses, Split}
-use Rattle.lattice_stretch.specs.Laws.Crossing.{none_crossed, reordered, cut_off, then_more}
+use Rattle.lattice_stretch.specs.Laws.Crossing.{exit, none_crossed, reordered, cut_off, then_more}
 use Rattle.lattice_walk.proofs.cross_whole.Invariants.{Far}
 use Rattle.lattice_walk.proofs.cross_whole.Goals as goal
 
@@ -121,8 +120,7 @@ cross_part-requires c = split _ _ _ _ _ _ _ c.loop-weight.invariant c.loop-weigh
 
 pub returns-in_err-budget : goal.returns-in_err-budget
 returns-in_err-budget c =
-    let p = err_from_is_err_and c.from_residual.result c.from_residual.ensures.1 in
-    rw p.1
+    exit _ _ c.from_residual.ensures.1
     (stop _ _ _ _ _ _ _ c.loop-weight.invariant c.loop-weight.auto.nodes c.loop-weight-test.true _ _ c.in_err-budget.ensures c.requires.reached refl _)
 
 pub loop-weight-preserved : goal.loop-weight-preserved

@@ -1,15 +1,12 @@
 use Rattle.std.proofs.Common.{ℕ, List, refl, length}
-use Rattle.std.proofs.lemmas.Result.{err_from_is_err_and}
 use Rattle.lattice_nodes.specs.Laws.Blocks.{First}
 use Rattle.lattice_walk.specs.Blocks.{Small, Rows}
-use Rattle.lattice_walk.proofs.Onward.{parts, part_some, weight_some, begin, finish, next_fits, row_stops, row_on}
+use Rattle.lattice_stretch.specs.Laws.Crossing.{exit}
+use Rattle.lattice_walk.proofs.Onward.{parts, weight_some, begin, finish, next_fits, row_stops, row_on}
 use Rattle.lattice_walk.proofs.walk_rows.Goals as goal
 
 parts_of : (ws nodes : List ℕ) (f : ℕ) → Small ws (length nodes) → Rows ws nodes f → First ws (length nodes)
 parts_of ws nodes f g r = parts ws nodes f g r.later r.reached
-
-pub bounds-weights-0 : goal.bounds-weights-0
-bounds-weights-0 c = part_some _ _ (parts_of _ _ _ c.requires.small c.requires.rows)
 
 pub overflow_step-row : goal.overflow_step-row
 overflow_step-row c = weight_some _ _ (parts_of _ _ _ c.requires.small c.requires.rows)
@@ -26,8 +23,7 @@ cross_row-requires c =
 
 pub returns-in_err-budget : goal.returns-in_err-budget
 returns-in_err-budget c =
-    let p = err_from_is_err_and c.from_residual.result c.from_residual.ensures.1 in
-    rw p.1
+    exit _ _ c.from_residual.ensures.1
     (row_stops _ _ _ (parts_of _ _ _ c.requires.small c.requires.rows) _ c.loop-row-test.true _ _ c.loop-row.auto.nodes c.loop-row.invariant
     c.requires.rows.rows _ _ c.in_err-budget.ensures refl _)
 

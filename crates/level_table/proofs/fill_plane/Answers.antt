@@ -35,4 +35,5 @@ returns c =
     let d = c.loop-k in
     let a = c.args in
     let e : d.k ≡ 8 = omega arith in
-    rw e at d.invariant ∙ filled (λ j. part_at a.list a.log.now (a.first + j)) (length a.log.now / 8) a.table.now
+    rw e at d.invariant
+    ∙ filled (λ j. part_at a.list.now a.log.now (a.first + j)) (length a.log.now / 8) a.table.now

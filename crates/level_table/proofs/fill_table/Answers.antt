@@ -7,11 +7,13 @@ use mathlib.Core.List.{List, ◌++◌, append-nil}
 use lib.ListN.{length, take, drop, length-drop, drop_of_length-le}
 use lib.Seq.{sets, length-sets, length-take-le, take_all}
 use borrow.Author.Tests.{lt-ltb, le-ltb}
+use lib.Dec.{ltb}
 use Rattle.laws.specs.Laws.Stores.{stored_part}
 use Rattle.run_log.specs.Log.{row_count}
 use Rattle.preference.specs.declared.PreferenceList.{PreferenceList}
 use Rattle.level_table.specs.Table.{is_wide, plane_of, table_length, with_table}
 use Rattle.level_table.specs.Laws.Table.{table_narrow, table_wide}
+use Rattle.level_table.proofs.fill_table.Goals.{Then-is_wide}
 use Rattle.level_table.proofs.fill_table.Goals as goal
 
 -- a plane fits into a table of its length
@@ -19,13 +21,27 @@ plane_fits : (l : PreferenceList) (log : List ℤ) (t : Bool) → is_wide l ≡ 
 plane_fits l log true e = omega (arith, table_wide l log e)
 plane_fits l log false e = omega (arith, table_narrow l log e)
 
--- the first plane leaves the table's length, and there is room for a second
-first_long : (t t' vs : List ℕ) → t' ≡ sets t 0 vs → length t' ≡ length t
-first_long t t' vs e = ap length e ∙ length-sets t 0 vs
+-- a second plane is due
+wide : (c : Then-is_wide) → is_wide c.args.list ≡ true
+wide c = sym c.is_wide.ensures ∙ c.if-is_wide.true
 
-room : (l : PreferenceList) (log : List ℤ) (n m : ℕ) → is_wide l ≡ true → n ≡ table_length l log → n ≤ m
-    → 8192 + 8 * row_count log ≤ m
-room l log n m w e h = omega (arith, table_wide l log w)
+-- the first one leaves the table's length, and there is room for it
+room : (c : Then-is_wide) → 8192 + 8 * row_count c.args.log.now ≤ length c.fill_plane.new.table
+room c =
+    let a = c.args in
+    omega (
+      arith,
+      c.table_length.ensures,
+      c.if-table-table_length.false,
+      table_wide a.list a.log.now (wide c),
+      ap length c.fill_plane.ensures,
+      length-sets a.table.now 0 (plane_of a.list a.log.now 0),
+    )
+
+-- a table that is long enough is not left as it is
+filled : (t : List ℕ) (l : PreferenceList) (log : List ℤ) (n : ℕ) → n ≡ table_length l log → n ≤ length t
+    → ltb (length t) (table_length l log) ≡ false
+filled t l log n e h = le-ltb (length t) (table_length l log) (omega (arith, e))
 
 -- what the second plane leaves, its part put back
 second : (t vs ys : List ℕ) → 8192 ≤ length t → ys ≡ sets (take (length t - 8192) (drop 8192 t)) 0 vs
@@ -54,28 +70,15 @@ fill_plane-requires c =
     )
 
 pub slice_bounds-fill_plane-count : goal.slice_bounds-fill_plane-count
-slice_bounds-fill_plane-count c =
-    let a = c.args in
-    let k = first_long a.table.now c.fill_plane.new.table (plane_of a.list a.log.now 0) c.fill_plane.ensures in
-    let m =
-    room a.list a.log.now _ _ (sym c.is_wide.ensures ∙ c.if-is_wide.true) c.table_length.ensures c.if-table-table_length.false in
-    omega arith
+slice_bounds-fill_plane-count c = omega (arith, room (goal.at.slice_bounds-fill_plane-count c).Then-is_wide)
 
 pub slice_bounds-fill_plane-start : goal.slice_bounds-fill_plane-start
-slice_bounds-fill_plane-start c =
-    let a = c.args in
-    let k = first_long a.table.now c.fill_plane.new.table (plane_of a.list a.log.now 0) c.fill_plane.ensures in
-    let m =
-    room a.list a.log.now _ _ (sym c.is_wide.ensures ∙ c.if-is_wide.true) c.table_length.ensures c.if-table-table_length.false in
-    omega arith
+slice_bounds-fill_plane-start c = omega (arith, room (goal.at.slice_bounds-fill_plane-start c).Then-is_wide)
 
 pub fill_plane-requires-then-is_wide : goal.fill_plane-requires-then-is_wide
 fill_plane-requires-then-is_wide c =
-    let a = c.args in
     let t = c.fill_plane.new.table in
-    let k = first_long a.table.now t (plane_of a.list a.log.now 0) c.fill_plane.ensures in
-    let m =
-    room a.list a.log.now _ _ (sym c.is_wide.ensures ∙ c.if-is_wide.true) c.table_length.ensures c.if-table-table_length.false in
+    let m = room (goal.at.fill_plane-requires-then-is_wide c).Then-is_wide in
     let n = length-drop 8192 t in
     (omega arith, rw (length-take-le (length t - 8192) (drop 8192 t) (omega arith)) (omega arith))
 
@@ -83,18 +86,19 @@ pub returns-then-is_wide : goal.returns-then-is_wide
 unfolding with_table
 returns-then-is_wide c =
     let a = c.args in
-    let t = c.fill_plane.new.table in
-    let w = sym c.is_wide.ensures ∙ c.if-is_wide.true in
-    let k = first_long a.table.now t (plane_of a.list a.log.now 0) c.fill_plane.ensures in
-    let m = room a.list a.log.now _ _ w c.table_length.ensures c.if-table-table_length.false in
-    let h = le-ltb (length a.table.now) (table_length a.list a.log.now) (omega (arith, c.if-table-table_length.false, c.table_length.ensures)) in
-    rw (h, w)
-    (second t (plane_of a.list a.log.now 8) _ (omega arith) c.fill_plane-then-is_wide.ensures
+    let here = (goal.at.returns-then-is_wide c).Then-is_wide in
+    let m = room here in
+    rw (filled a.table.now a.list a.log.now _ c.table_length.ensures c.if-table-table_length.false, wide here)
+    (second c.fill_plane.new.table (plane_of a.list a.log.now 8) _ (omega arith)
+    c.fill_plane-then-is_wide.ensures
     ∙ ap (λ (t : List ℕ). sets t 8192 (plane_of a.list a.log.now 8)) c.fill_plane.ensures)
 
 pub returns-else-is_wide : goal.returns-else-is_wide
 unfolding with_table
 returns-else-is_wide c =
     let a = c.args in
-    let h = le-ltb (length a.table.now) (table_length a.list a.log.now) (omega (arith, c.if-table-table_length.false, c.table_length.ensures)) in
-    rw (h, sym c.is_wide.ensures ∙ c.if-is_wide.false) c.fill_plane.ensures
+    rw (
+      filled a.table.now a.list a.log.now _ c.table_length.ensures c.if-table-table_length.false,
+      sym c.is_wide.ensures ∙ c.if-is_wide.false,
+    )
+    c.fill_plane.ensures

@@ -1,5 +1,5 @@
 -- The level of a run by the rule of a part.
-use Rattle.std.specs.Prelude.{◌≡◌, ℕ, ◌+◌, ◌<◌, Bool, List, ℤ, pos, length}
+use Rattle.std.specs.Prelude.{◌≡◌, ℕ, ◌+◌, ◌<◌, Bool, cond, Some, None, List, ℤ, pos, length}
 use Rattle.std.proofs.Math.Path.{refl, sym, ap}
 use Rattle.std.proofs.Common.{◌∙◌, arith, leb-true, leb-false}
 use Rattle.std.proofs.Math.Bool.{true, false}
@@ -11,14 +11,15 @@ use Rattle.arith.specs.Ceil.{ceil_div}
 use Rattle.arith.specs.Laws.Ceil.{ceil_zero}
 use Rattle.constructor.specs.Level.{layering_of, numeric_level}
 use Rattle.constructor.specs.Laws.Target.{distance_outside}
-use Rattle.constructor.specs.Side.{is_pair, part_in, side_by, side_of}
+use Rattle.constructor.specs.Side.{is_pair, half_of, part_in, part_by, side_by, side_of}
+use Rattle.constructor.specs.Laws.Side.{part_by_half}
 use Rattle.constructor.specs.declared.Constructor.{Constructor}
 use Rattle.constructor.specs.declared.Constructor.TheVariants.{Lowest, Highest, Around, Between, Layered}
 use Rattle.constructor.specs.declared.Constructor.TheVariants.{BetweenTrivial}
 use Rattle.constructor.specs.declared.Layering.TheVariants.{Numeric, Layers}
 use Rattle.preference.specs.List.{preference_at, constructor_at}
 use Rattle.preference.specs.Level.{layer_of, level_at, side_at}
-use Rattle.preference.specs.Laws.Parts.{level_counted, level_past}
+use Rattle.preference.specs.Laws.Parts.{level_by, level_past}
 use Rattle.preference.specs.Parts.{levels, row_value, max_levels, part_of}
 use Rattle.level_table.specs.Rule.{zero_rule, rule_for, rule_of}
 use Rattle.preference.specs.declared.PreferenceList.{PreferenceList}
@@ -60,7 +61,7 @@ module _ (l : PreferenceList) (row : List ℤ) (k : ℕ) where
   abbrev told : ℤ → ℕ
   told v =
       let r = rule_of l k in
-      part_in r.pair r.half (ceil_div (gap r.target.low v + gap v r.target.up) r.step)
+      part_by r.half (ceil_div (gap r.target.low v + gap v r.target.up) r.step)
       (side_by r.target.low r.target.up v)
 
   pub rule_numeric : (rule_of l k).layering ≡ Numeric → (v : ℤ) → v ≡ get_or row (rule_of l k).column (pos 0)
@@ -78,9 +79,9 @@ module _ (l : PreferenceList) (row : List ℤ) (k : ℕ) where
           let c = constructor_at l place in
           let w = rw f at e in
           rw (f, distance_outside c v h)
-          (ap (λ (u : ℤ). part_in (is_pair c) (part_of l k).half (numeric_level c u) (side_of c u)) w
-          ∙ sym (level_counted l k (leb-false (length (max_levels l)) k b) row
-          ∙ ap (λ (n : ℕ). part_in (is_pair c) (part_of l k).half n (side_of c (row_value l row place)))
+          (ap (λ (u : ℤ). part_by (half_of c (part_of l k).half) (numeric_level c u) (side_of c u)) w
+          ∙ sym (level_by l k (leb-false (length (max_levels l)) k b) row
+          ∙ ap (λ (n : ℕ). part_by (half_of c (part_of l k).half) n (side_of c (row_value l row place)))
           (numeric_at l place (row_value l row place) (rw f at y))))
 
   -- by layers
@@ -96,6 +97,24 @@ module _ (l : PreferenceList) (row : List ℤ) (k : ℕ) where
       go false b =
           let f = rule_counted b in
           rw f (sym
-          (level_counted l k (leb-false (length (max_levels l)) k b) row
+          (level_by l k (leb-false (length (max_levels l)) k b) row
           ∙ rw (layers_single (constructor_at l place) top others (rw f at y))
           (layers_at l place (row_value l row place) top others (rw f at y))))
+
+-- part k goes by distance, with the figures of its rule
+pub record Ruled (l : PreferenceList) (k column : ℕ) (low up : ℤ) (step : ℕ) (pair : Bool) (half : ℕ) : Type 0 where
+  pub numeric : (rule_of l k).layering ≡ Numeric
+  pub column_is : (rule_of l k).column ≡ column
+  pub low_is : (rule_of l k).target.low ≡ low
+  pub up_is : (rule_of l k).target.up ≡ up
+  pub step_is : (rule_of l k).step ≡ step
+  pub half_is : (rule_of l k).half ≡ cond pair (Some half) None
+
+pub ruled_level : (l : PreferenceList) (k column : ℕ) (low up : ℤ) (step : ℕ) (pair : Bool) (half : ℕ)
+    → Ruled l k column low up step pair half
+    → (row : List ℤ) (v : ℤ) → v ≡ get_or row column (pos 0) → mag v < 2147483648
+    → part_in pair half (ceil_div (gap low v + gap v up) step) (side_by low up v) ≡ get_or (levels l row) k 0
+ruled_level l k column low up step pair half h row v e b =
+    sym (part_by_half pair half (ceil_div (gap low v + gap v up) step) (side_by low up v))
+    ∙ rw (← h.low_is, ← h.up_is, ← h.step_is, ← h.half_is)
+    (rule_numeric l row k h.numeric v (rw h.column_is e) b)

@@ -11,5 +11,5 @@ more list k i = ltb k (length (joined (max_parts list) (suc i)))
 
 abbrev pub invariant-loop-place : goal.invariant-loop-place
 invariant-loop-place l =
-    (l.before ≤ 2 * l.place) × (l.before ≤ l.k) × (l.before ≡ length (joined (max_parts l.list) l.place))
-    × (first_at (more l.list l.k) l.place ≡ l.place)
+    (l.before ≤ 2 * l.place) × (l.before ≤ l.k) × (l.before ≡ length (joined (max_parts l.fn.list) l.place))
+    × (first_at (more l.fn.list l.k) l.place ≡ l.place)

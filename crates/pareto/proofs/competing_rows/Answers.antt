@@ -1,50 +1,21 @@
-use native.Mathlib.Omega.{arith}
-use native.Mathlib.Numerals.{add-one}
-use native.Mathlib.Nat.{zero-add}
-use Prim.Native.Nat.{ℕ, ◌+◌, ◌/◌}
-use mathlib.Core.Path.{◌≡◌, ◌∙◌}
-use mathlib.Core.Bool.{Bool, true, false}
-use mathlib.Core.List.{List, [], ◌∷◌, ◌++◌, append-nil}
-use lib.ListN.{length, set, length-append}
-use lib.Seq.{sets}
-use Rattle.laws.specs.Lists.{joined, passing}
-use Rattle.laws.specs.Laws.Stores.{sets_append}
+use Rattle.std.proofs.Common.{◌≡◌, ◌∙◌, ◌/◌, arith, rules, length}
 use Rattle.run_log.specs.Log.{log_of}
 use Rattle.pareto.specs.Best.{competes, competing}
-use Rattle.pareto.specs.Laws.Competing.{listed_none}
+use Rattle.pareto.specs.Laws.Competing.{listed_none, listed_one, listed_other}
 use Rattle.pareto.proofs.competing_rows.Goals as goal
-
--- the rows below r + 1 that compete, by whether row r does
-module _ (c : ℕ → Bool) (r : ℕ) where
-  row_more : c r ≡ true → passing c (r + 1) ≡ passing c r ++ (r ∷ [])
-  row_more e = unfold joined in rw (add-one r, e)
-
-  row_passed : c r ≡ false → passing c (r + 1) ≡ passing c r
-  row_passed e = unfold joined in rw (add-one r, e) (append-nil (passing c r))
-
-  count_more : c r ≡ true → length (passing c (r + 1)) ≡ length (passing c r) + 1
-  count_more e = rw (row_more e) (length-append (passing c r) (r ∷ []))
-
-  count_same : c r ≡ false → length (passing c (r + 1)) ≡ length (passing c r)
-  count_same e = rw (row_passed e)
-
-  stored_more : (lent : List ℕ) → c r ≡ true
-      → sets lent 0 (passing c (r + 1)) ≡ set (sets lent 0 (passing c r)) (length (passing c r)) r
-  stored_more lent e = rw (row_more e, sets_append lent 0 (passing c r) (r ∷ []), zero-add)
-
-  stored_same : (lent : List ℕ) → c r ≡ false → sets lent 0 (passing c (r + 1)) ≡ sets lent 0 (passing c r)
-  stored_same lent e = rw (row_passed e)
+use Rattle.pareto.proofs.competing_rows.Goals.{then-row_competes, else-row_competes}
 
 pub loop-r-init : goal.loop-r-init
 loop-r-init c = listed_none (competes (log_of c.args.log.now)) c.args.rows.now
 
 pub loop-r-preserved : goal.loop-r-preserved
 loop-r-preserved c =
-    record {
-      counted = grind (arith, count_more, count_same);
-      few = grind arith;
-      stored = grind (arith, stored_more, stored_same);
-    }
+    let l = c.loop-r in
+    let p = competes (log_of c.args.log.now) in
+    elim c.if-row_competes.branch [
+      | then-row_competes w ↦ rw (w.found-is, w.rows-is ∙ w.put.ensures) (listed_one p _ l.r l.found l.rows l.invariant (search rules))
+      | else-row_competes w ↦ rw (w.found-is, w.rows-is) (listed_other p _ l.r l.found l.rows l.invariant (search rules))
+    ]
 
 pub returns : goal.returns
 unfolding competing

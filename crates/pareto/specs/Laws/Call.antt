@@ -1,13 +1,18 @@
 -- What a call leaves, by its answer, and the answer due, by its number.
-use Rattle.std.specs.Prelude.{◌≡◌, ℕ}
+use Rattle.std.specs.Prelude.{◌≡◌, ℕ, Result}
+use Rattle.std.specs.Result.{IsErrAnd}
 use Rattle.std.proofs.Math.Path.{sym, ap}
 use Rattle.std.proofs.Common.{◌∙◌}
+use Rattle.std.proofs.lemmas.Result.{err_from_is_err_and}
 use mathlib.Core.List.{List}
 use Rattle.std.proofs.Math.ListN.{length}
 use borrow.Author.Tests.{eq-eqb, ne_eqb}
 use Rattle.laws.specs.Outcome.{Outcome, accepted, refused, outcome}
 use Rattle.laws.specs.Laws.Outcome.{outcome_accepted, outcome_refused, accepted_refusal, accepted_value}
 use Rattle.laws.specs.Laws.Outcome.{refused_refusal}
+use Rattle.refusal.specs.Refusal.{number, outcome_of}
+use Rattle.refusal.specs.declared.Refusal.{Refusal}
+use Rattle.refusal.specs.Laws.Refusal.{number_some}
 use Rattle.run_log.specs.Log.{row_count, marked_rows}
 use Rattle.pareto.specs.Best.{marks_after}
 use Rattle.pareto.specs.Call.{Call, counting, marks_left, Leaves}
@@ -42,6 +47,12 @@ module _ (c : Call) (marks : List ℕ) where
   unfolding marks_left
   leaves_refused k e z =
       record { answer_is = rw e (sym (outcome_refused k c.value z)); marks_are = rw (e, ne_eqb k 0 z) }
+
+  -- the exit of a `?` behind a check that refuses
+  pub leaves_exit : (answer : Result ℕ Refusal) (r : Refusal) → IsErrAnd answer (λ y. y ≡ r) → number r ≡ c.refusal
+      → Leaves c marks (outcome_of answer) marks
+  leaves_exit answer r x e =
+      let p = err_from_is_err_and answer x in rw (p.1, p.2) (leaves_refused (number r) (sym e) (number_some r))
 
   pub leaves_accepted : (n : ℕ) (marks' : List ℕ) → c.refusal ≡ 0 → n ≡ c.value
       → marks' ≡ marks_after c.list c.log marks

@@ -9,6 +9,7 @@ use mathlib.Core.List.Memᴰ
 use mathlib.Core.List.{List, [], ◌∷◌, ◌++◌, append-nil, Memᴰ}
 use Rattle.std.proofs.Math.Logic.{⊎_elim}
 use Rattle.std.proofs.Math.ListN.{length-append}
+use Rattle.std.proofs.lemmas.List.{take_all}
 use Rattle.std.proofs.lemmas.List.Edits.{sets}
 use Rattle.laws.specs.Lists.{joined, passing}
 use Rattle.laws.specs.Laws.Stores.{sets_append, stored_front}
@@ -33,11 +34,24 @@ module _ (c : ℕ → Bool) where
   one_few true n = omega arith
   one_few false n = omega arith
 
-  passing_few : (n : ℕ) → length (passing c n) ≤ n
+  pub passing_few : (n : ℕ) → length (passing c n) ≤ n
   unfolding joined
   passing_few zero = omega arith
   passing_few (suc n) =
       omega (arith, length-append (passing c n) (cond (c n) (n ∷ []) []), one_few (c n) n, passing_few n)
+
+  -- the numbers below n + 1 that pass, by whether n does
+  pub passing_none : passing c 0 ≡ []
+  unfolding joined
+  passing_none = refl
+
+  pub passing_more : (n : ℕ) → c n ≡ true → passing c (n + 1) ≡ passing c n ++ (n ∷ [])
+  unfolding joined
+  passing_more n e = rw (add-one n, e)
+
+  pub passing_same : (n : ℕ) → c n ≡ false → passing c (n + 1) ≡ passing c n
+  unfolding joined
+  passing_same n e = rw (add-one n, e) (append-nil (passing c n))
 
   one_below : (b : Bool) (n r : ℕ) → Memᴰ r (cond b (n ∷ []) []) → r < suc n
   one_below true n r k = omega (arith, Memᴰ.eq_of_singleton k)
@@ -59,6 +73,10 @@ competing_few log = passing_few (competes log) (row_count log.values)
 pub competing_below : (log : Log) (r : ℕ) → Memᴰ r (competing log) → r < row_count log.values
 unfolding competing
 competing_below log = passing_below (competes log) (row_count log.values)
+
+-- a log that is no longer than engines take has room for all of them in 1,024 places
+pub competing_whole : (log : Log) → row_count log.values ≤ 1024 → take 1024 (competing log) ≡ competing log
+competing_whole log h = take_all 1024 (competing log) (omega (arith, competing_few log))
 
 at_place : (xs : List ℕ) (i : ℕ) → i < length xs → Memᴰ (get_or xs i 0) xs
 at_place [] i h = absurd (not-suc-le-zero h)
@@ -89,17 +107,14 @@ module _ (c : ℕ → Bool) (lent : List ℕ) where
   module _ (r n : ℕ) (rows : List ℕ) (s : Listed c lent r n rows) where
     pub listed_one : c r ≡ true → Listed c lent (r + 1) (n + 1) (set rows n r)
     listed_one e = record {
-      counted = rw longer (omega (arith, length-append (passing c r) (r ∷ []), s.counted));
+      counted = rw (passing_more c r e) (omega (arith, length-append (passing c r) (r ∷ []), s.counted));
       few = omega (arith, s.few);
-      stored = rw (longer, sets_append lent 0 (passing c r) (r ∷ []), zero-add, ← s.counted, ← s.stored);
+      stored = rw (passing_more c r e, sets_append lent 0 (passing c r) (r ∷ []), zero-add, ← s.counted, ← s.stored);
     }
-      where
-        longer : passing c (r + 1) ≡ passing c r ++ (r ∷ [])
-        longer = unfold joined in rw (add-one r, e)
 
     pub listed_other : c r ≡ false → Listed c lent (r + 1) n rows
-    listed_other e =
-        record { counted = rw same s.counted; few = omega (arith, s.few); stored = rw same s.stored }
-      where
-        same : passing c (r + 1) ≡ passing c r
-        same = unfold joined in rw (add-one r, e) (append-nil (passing c r))
+    listed_other e = record {
+      counted = rw (passing_same c r e) s.counted;
+      few = omega (arith, s.few);
+      stored = rw (passing_same c r e) s.stored;
+    }

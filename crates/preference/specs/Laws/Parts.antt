@@ -2,7 +2,7 @@
 -- that is not refused by 8 are at most the greatest levels, which are at most 65,535.
 use Rattle.std.specs.Prelude.{◌≡◌, ℕ, zero, suc, ◌*◌, ◌<◌, ◌≤◌, Bool, List, [], ◌∷◌, ◌++◌, ℤ, get_or, length}
 use Rattle.std.proofs.Math.Path.{refl}
-use Rattle.std.proofs.Common.{◌∙◌, length-append}
+use Rattle.std.proofs.Common.{sym, ◌∙◌, length-append}
 use Rattle.std.proofs.Math.Decide.{dec_lt}
 use native.Mathlib.Omega.{arith}
 use Rattle.std.proofs.Math.Nat.{min-le_right}
@@ -10,9 +10,9 @@ use Rattle.std.proofs.Math.Bool.{true, false}
 use Rattle.std.proofs.Math.ListN.{get_or-eq_default}
 use Rattle.laws.specs.Laws.First.{refusal_zero}
 use Rattle.constructor.specs.Level.{max_level}
-use Rattle.constructor.specs.Side.{is_pair, pair_of, tops_of, part_in}
+use Rattle.constructor.specs.Side.{is_pair, pair_of, tops_of, part_in, half_of, part_by}
 use Rattle.constructor.specs.Laws.Side.{parts_long, parts_single, parts_pair, parts_at, tops_single, tops_pair, tops_at}
-use Rattle.constructor.specs.Laws.Side.{tops_few, tops_some}
+use Rattle.constructor.specs.Laws.Side.{tops_few, tops_some, part_by_in}
 use Rattle.constructor.specs.declared.Constructor.{Constructor}
 use Rattle.constructor.specs.declared.Side.{Side}
 use Rattle.constructor.specs.declared.Side.TheVariants.{Below, Inside, Above}
@@ -107,6 +107,17 @@ module _ (l : PreferenceList) (k : ℕ) (h : k < length (max_levels l)) where
       ≡ part_in (is_pair (constructor_at l i)) (part_of l k).half (level_at l i (row_value l row i))
       (side_at l i (row_value l row i))
   level_counted row = part_level row ∙ parts_at (constructor_at l (part_of l k).place) _ _ (part_of l k).half part_half
+
+  pub level_by : (row : List ℤ)
+      → let i = (part_of l k).place in
+      get_or (levels l row) k 0
+      ≡ part_by (half_of (constructor_at l i) (part_of l k).half) (level_at l i (row_value l row i))
+      (side_at l i (row_value l row i))
+  level_by row =
+      let i = (part_of l k).place in
+      level_counted row
+      ∙ sym (part_by_in (constructor_at l i) (part_of l k).half (level_at l i (row_value l row i))
+      (side_at l i (row_value l row i)))
 
   -- its greatest level is the preference's
   pub max_counted : get_or (max_levels l) k 0 ≡ max_at l (part_of l k).place

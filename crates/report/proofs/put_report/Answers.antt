@@ -1,5 +1,5 @@
 use Rattle.std.specs.Prelude.{◌≡◌, []}
-use Rattle.std.proofs.Common.{arith, ap, ◌∙◌}
+use Rattle.std.proofs.Common.{arith, ap}
 use Rattle.run_log.specs.Log.{log_of}
 use Rattle.pareto.specs.Call.{Call}
 use Rattle.refusal.specs.Refusal.{number}
@@ -27,6 +27,6 @@ returns-in-Err c =
     let e = c.in-Err.ensures.refused in
     let k : number r ≡ (program_call s).refusal = then_err r _ _ e in
     record {
-      writes = rw (c.from-in-Err.ensures ∙ c.from.ensures, unread_text s r e) at c.put_refused.ensures;
+      writes = rw (c.from.ensures, unread_text s r e) at c.put_refused.ensures;
       number_bound = omega (arith, k, number_small r);
     }

@@ -1,5 +1,5 @@
 use Rattle.std.specs.Prelude.{ℕ, List, replicate}
-use Rattle.std.proofs.Common.{arith, ◌∙◌}
+use Rattle.std.proofs.Common.{arith}
 use Rattle.output.specs.Laws.Stored.{writes_then}
 use Rattle.pareto.specs.Laws.Call.{refused_leaves, accepted_leaves}
 use Rattle.refusal.specs.Laws.Refusal.{number_small}
@@ -25,6 +25,6 @@ returns-in-Err c =
     record {
       writes =
           rw (← refused_text_lem _ zeros _ _ t)
-          (rw (c.from-in-Err-2.ensures ∙ c.from-in-Err.ensures) at c.put_refused.ensures);
+          (rw c.from-in-Err.ensures at c.put_refused.ensures);
       max_runs_bound = omega (arith, (refused_leaves _ zeros _ _ t).0, number_small c.in-Err.refusal);
     }

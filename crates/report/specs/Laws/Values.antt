@@ -6,8 +6,8 @@ use Rattle.word.specs.Word.{int_at}
 use Rattle.word.specs.Laws.Word.{Bytes, int_fits}
 use Rattle.stream_format.specs.Kinds.{class_of, body_of}
 use Rattle.stream_format.specs.Read.{ints_at, values_under, values_from, values_of}
-use Rattle.stream_format.specs.declared.Class.{Class}
-use Rattle.stream_format.specs.declared.Class.TheVariants.{Unknown, PreferenceRecord, NamedRecord, RunRecord}
+use Rattle.stream_format.specs.Kinds.{Class}
+use Rattle.stream_format.specs.Kinds.{Unknown, PreferenceRecord, NamedRecord, RunRecord}
 use Rattle.report_lines.specs.Laws.Lengths.{Values}
 
 none_fit : Values []

@@ -1,6 +1,6 @@
 use Rattle.std.specs.Prelude.{ℕ, List, length, replicate}
 use Rattle.std.proofs.lemmas.List.{length-replicate}
-use Rattle.std.proofs.lemmas.Result.{err_from_is_err_and}
+use Rattle.selection.specs.Laws.Exit.{exit}
 use Rattle.laws.specs.Outcome.{Outcome}
 use Rattle.run_log.specs.Log.{Log, log_of}
 use Rattle.preference.specs.declared.PreferenceList.{PreferenceList}
@@ -19,8 +19,7 @@ told l log w marks after answer h = own_work l log marks after answer _ w (lengt
 pub returns-in_err-run : goal.returns-in_err-run
 returns-in_err-run c =
     let a = c.args in
-    let p = err_from_is_err_and c.from_residual.result c.from_residual.ensures.1 in
-    rw (p.1, p.2)
+    rw (exit c.from_residual.result _ c.from_residual.ensures.1)
     (refused_counts _ a.marks.now _ c.run.new.marks
     (told a.list (log_of a.log.now) a.w a.marks.now c.run.new.marks _ c.in_err-run.ensures.leaves))
 

@@ -29,16 +29,16 @@ front s lent log place rows l e f =
 pub overflow_mul-result : goal.overflow_mul-result
 overflow_mul-result c =
     let a = c.args in
-    let f = fits a.stream.now (length a.numbers.now) _ _ _ c.in-Ok.ensures.answer in record { fits = omega (arith, c.told-numbers) }
+    let f = fits a.stream.now (length a.numbers.now) _ _ _ c.in_ok-read.ensures.answer in record { fits = omega (arith, c.told-numbers) }
 
 pub shared_ref_as_front-result : goal.shared_ref_as_front-result
 shared_ref_as_front-result c =
     let a = c.args in
-    let f = fits a.stream.now (length a.numbers.now) _ _ _ c.in-Ok.ensures.answer in omega (arith, c.told-numbers)
+    let f = fits a.stream.now (length a.numbers.now) _ _ _ c.in_ok-read.ensures.answer in omega (arith, c.told-numbers)
 
-pub returns-in-Ok-clause-held : goal.returns-in-Ok-clause-held
-returns-in-Ok-clause-held c =
+pub returns-clause-held : goal.returns-clause-held
+returns-clause-held c =
     let a = c.args in (
-      ap (λ (r : ReadAnswer). r.list) c.in-Ok.ensures.answer ∙ ap (λ (n : ℕ). (read_of a.stream.now n).list) c.told-numbers,
-      front a.stream.now a.numbers.now c.read.new.log _ _ _ c.in-Ok.ensures.answer c.in-Ok.ensures.left,
+      ap (λ (r : ReadAnswer). r.list) c.in_ok-read.ensures.answer ∙ ap (λ (n : ℕ). (read_of a.stream.now n).list) c.told-numbers,
+      front a.stream.now a.numbers.now c.read.new.log _ _ _ c.in_ok-read.ensures.answer c.in_ok-read.ensures.left,
     )

@@ -13,6 +13,6 @@ pub returns : goal.returns
 returns c =
     let a = c.args in
     let long = ap (λ (k : ℕ). 102 * (length a.rows.now + 2 * k)) c.page_count.ensures in
-    let prints = rw (c.new.ensures.bytes, c.new.ensures.start) at (writes_prints c.put_pages.ensures) in
+    let prints = rw (c.new.ensures.bytes, c.new.ensures.start) at (writes_prints c.put_pages.ensures c.new.ensures.limit) in
     let left = rows_printed a.log.now a.rows.now a.out.now _ long _ _ c.if-out-length.false c.requires prints in
     record { answer_is = left.answer_is; out_is = rw (← left.out_is) (search rules) }

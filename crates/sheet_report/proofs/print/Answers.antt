@@ -1,5 +1,5 @@
 use Rattle.std.proofs.Common.{ap}
-use Rattle.std.proofs.lemmas.Result.{err_from_is_err_and}
+use Rattle.selection.specs.Laws.Exit.{exit}
 use Rattle.run_log.specs.Log.{log_of}
 use Rattle.refusal.specs.Refusal.{outcome_of}
 use Rattle.sheet_report.specs.Laws.Report.{unread_left, read_left}
@@ -8,8 +8,7 @@ use Rattle.sheet_report.proofs.print.Goals as goal
 pub returns-in_err-held : goal.returns-in_err-held
 returns-in_err-held c =
     let a = c.args in
-    let p = err_from_is_err_and c.from_residual.result c.from_residual.ensures.1 in
-    rw (p.1, p.2) (unread_left a.stream.now a.out.now _ c.in_err-held.ensures.refused)
+    rw (exit c.from_residual.result _ c.from_residual.ensures.1) (unread_left a.stream.now a.out.now _ c.in_err-held.ensures.refused)
 
 pub returns : goal.returns
 returns c =

@@ -1,7 +1,7 @@
 use Rattle.std.specs.Prelude.{ℕ, ◌≡◌, List, replicate, length}
 use Rattle.std.proofs.Common.{rules}
 use Rattle.std.proofs.lemmas.List.{length-replicate}
-use Rattle.std.proofs.lemmas.Result.{err_from_is_err_and}
+use Rattle.selection.specs.Laws.Exit.{exit}
 use Rattle.run_log.specs.Log.{log_of}
 use Rattle.refusal.specs.Refusal.{outcome_of}
 use Rattle.sheet_report.specs.Laws.Report.{selected_refused, selected_printed}
@@ -16,8 +16,8 @@ long = length-replicate {A = ℕ} 1024 0
 pub returns-in_err-by_either : goal.returns-in_err-by_either
 returns-in_err-by_either c =
     let a = c.args in
-    let p = err_from_is_err_and c.from_residual.result c.from_residual.ensures.1 in
-    rw (p.1, p.2) (selected_refused a.list (log_of a.log.now) zeros c.by_either.new.marks a.out.now long _ c.in_err-by_either.ensures)
+    let e = selected_refused a.list (log_of a.log.now) zeros c.by_either.new.marks a.out.now long _ c.in_err-by_either.ensures in
+    rw (exit c.from_residual.result _ c.from_residual.ensures.1) e
 
 pub returns : goal.returns
 returns c =

@@ -19,8 +19,8 @@ use Rattle.stream_format.specs.Laws.Kinds.{body_short}
 use Rattle.stream_format.specs.Laws.Read.{steps_keep, steps_ended, steps_add}
 use Rattle.stream_format.specs.Laws.Accepted.{records_end}
 use Rattle.stream_format.specs.Laws.Longest.{Kept, kept_start, kept_step, kept_small}
-use Rattle.stream_format.specs.declared.Class.{Class}
-use Rattle.stream_format.specs.declared.Class.TheVariants.{Unknown, PreferenceRecord, NamedRecord, RunRecord}
+use Rattle.stream_format.specs.Kinds.{Class}
+use Rattle.stream_format.specs.Kinds.{Unknown, PreferenceRecord, NamedRecord, RunRecord}
 use Rattle.stream_format.specs.ReadAnswer.{ReadAnswer}
 
 -- ---- what a record says stands in its first 33 bytes

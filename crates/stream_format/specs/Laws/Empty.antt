@@ -20,8 +20,8 @@ use Rattle.stream_format.specs.Read.{unless_refused, with_record, step, steps, s
 use Rattle.stream_format.specs.Read.{read_of}
 use Rattle.stream_format.specs.Laws.Read.{accepts, step_keeps, steps_keep}
 use Rattle.stream_format.specs.Laws.Accepted.{records_end}
-use Rattle.stream_format.specs.declared.Class.{Class}
-use Rattle.stream_format.specs.declared.Class.TheVariants.{Unknown, PreferenceRecord, NamedRecord, RunRecord}
+use Rattle.stream_format.specs.Kinds.{Class}
+use Rattle.stream_format.specs.Kinds.{Unknown, PreferenceRecord, NamedRecord, RunRecord}
 use Rattle.stream_format.specs.ReadAnswer.{ReadAnswer}
 
 pub empty_one : (room : ℕ) → read_of [] room ≡ refused_at 1 0

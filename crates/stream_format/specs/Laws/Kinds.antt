@@ -1,11 +1,12 @@
 -- What every row of the table of kinds has, by one computed test of the table.
-use Rattle.std.specs.Prelude.{◌≡◌, refl, ℕ, zero, suc, ◌*◌, ◌≤◌, Bool, true, ◌&&◌, List, [], ◌∷◌, leb, get_or}
-use Rattle.std.proofs.Common.{leb-true}
+use Rattle.std.specs.Prelude.{◌≡◌, refl, ℕ, zero, suc, ◌*◌, ◌<◌, ◌≤◌, Bool, true, ◌&&◌, List, [], ◌∷◌, leb, get_or}
+use Rattle.std.proofs.Common.{ap, arith, leb-true}
+use lib.ListN.{get_or-eq_default}
 use Rattle.laws.specs.Laws.Bools.{both}
 use Rattle.stream_format.specs.Kinds.{kind, kinds, kind_of}
-use Rattle.stream_format.specs.declared.Class.{Class}
-use Rattle.stream_format.specs.declared.Class.TheVariants.{Unknown, PreferenceRecord, NamedRecord, RunRecord}
-use Rattle.stream_format.specs.declared.Kind.{Kind}
+use Rattle.stream_format.specs.Kinds.{Class}
+use Rattle.stream_format.specs.Kinds.{Unknown, PreferenceRecord, NamedRecord, RunRecord}
+use Rattle.stream_format.specs.Kinds.{Kind}
 
 every : (Kind → Bool) → List Kind → Bool
 every p [] = true
@@ -45,3 +46,15 @@ pub body_holds : (k : ℕ) → 4 * values_in (kind_of k).class ≤ (kind_of k).b
 unfolding kind_of kinds every
 body_holds k =
     leb-true _ _ (of_every (λ (r : Kind). leb (4 * values_in r.class) r.body) kinds k (kind Unknown 0) refl refl)
+
+-- the table knows no kind before 01, and none after 08
+pub none : (k : ℕ) → k < 1 → (kind_of k).class ≡ Unknown
+unfolding kind_of kinds
+none zero h = refl
+none (suc k) h = absurd (omega arith)
+
+pub past : (k : ℕ) → 9 ≤ k → (kind_of k).class ≡ Unknown
+unfolding kind_of kinds
+past k h = ap (λ (r : Kind). r.class) (get_or-eq_default kinds (kind Unknown 0) h)
+
+pub ruleset outside = (none, past)

@@ -14,7 +14,7 @@ use Rattle.constructor.specs.declared.Constructor.TheVariants.{Lowest, Highest, 
 use Rattle.constructor.specs.declared.Constructor.TheVariants.{BetweenTrivial}
 use Rattle.stream_format.specs.Kinds.{kinds, kind_of}
 use Rattle.stream_format.specs.Laws.Kinds.{longest, body_longest}
-use Rattle.stream_format.specs.declared.Class.TheVariants.{PreferenceRecord}
+use Rattle.stream_format.specs.Kinds.{PreferenceRecord}
 use Rattle.stream_format.specs.Write.{kind_for, constructor_bytes, preference_bytes, named_bytes, ints_bytes, run_bytes}
 use Rattle.stream_format.specs.Write.{named_bytes_of, preference_records, row_bytes}
 

@@ -24,8 +24,8 @@ use Rattle.stream_format.specs.Laws.Read.{Accepts, accepts, preference_room, nam
 use Rattle.stream_format.specs.Laws.Read.{step_keeps}
 use Rattle.stream_format.specs.Laws.Read.{steps_keep, columns_step}
 use Rattle.stream_format.specs.Laws.Accepted.{read_accepted, records_end}
-use Rattle.stream_format.specs.declared.Class.{Class}
-use Rattle.stream_format.specs.declared.Class.TheVariants.{Unknown, PreferenceRecord, NamedRecord, RunRecord}
+use Rattle.stream_format.specs.Kinds.{Class}
+use Rattle.stream_format.specs.Kinds.{Unknown, PreferenceRecord, NamedRecord, RunRecord}
 use Rattle.stream_format.specs.ReadAnswer.{ReadAnswer}
 
 -- a LAYERED record has a body of 3

@@ -10,7 +10,7 @@ use Rattle.stream_format.specs.Read.{preference_of, out_of_place, figures_refusa
 use Rattle.stream_format.specs.Midway.{Columns}
 use Rattle.stream_format.specs.Laws.Columns.{columns_free}
 use Rattle.stream_format.specs.Laws.Read.{columns_steps}
-use Rattle.stream_format.specs.declared.Class.TheVariants.{PreferenceRecord}
+use Rattle.stream_format.specs.Kinds.{PreferenceRecord}
 use Rattle.stream_format.specs.ReadAnswer.{ReadAnswer}
 
 column_five : (l : PreferenceList) (column : ℕ) → Columns l → l.count ≡ 8 → column_refusal l l.count column ≡ 5

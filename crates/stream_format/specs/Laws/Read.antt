@@ -15,8 +15,8 @@ use Rattle.stream_format.specs.Read.{is_unknown, record_refusal, list_after, ref
 use Rattle.stream_format.specs.Read.{take_record, goes, step, steps, start, records}
 use Rattle.stream_format.specs.Midway.{Columns, to_read, Enough, Midway}
 use Rattle.stream_format.specs.Laws.Columns.{columns_zero, columns_room, columns_added}
-use Rattle.stream_format.specs.declared.Class.{Class}
-use Rattle.stream_format.specs.declared.Class.TheVariants.{Unknown, PreferenceRecord, NamedRecord, RunRecord}
+use Rattle.stream_format.specs.Kinds.{Class}
+use Rattle.stream_format.specs.Kinds.{Unknown, PreferenceRecord, NamedRecord, RunRecord}
 use Rattle.stream_format.specs.ReadAnswer.{ReadAnswer}
 
 -- a record that is not refused

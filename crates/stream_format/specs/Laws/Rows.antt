@@ -15,8 +15,8 @@ use Rattle.stream_format.specs.Read.{read_of, values_under, values_from, values_
 use Rattle.stream_format.specs.Laws.Accepted.{read_accepted}
 use Rattle.stream_format.specs.Laws.Read.{step_goes, steps_ended}
 use Rattle.stream_format.specs.Laws.Values.{values_end}
-use Rattle.stream_format.specs.declared.Class.{Class}
-use Rattle.stream_format.specs.declared.Class.TheVariants.{Unknown, PreferenceRecord, NamedRecord, RunRecord}
+use Rattle.stream_format.specs.Kinds.{Class}
+use Rattle.stream_format.specs.Kinds.{Unknown, PreferenceRecord, NamedRecord, RunRecord}
 use Rattle.stream_format.specs.ReadAnswer.{ReadAnswer}
 
 rows_and_values : (class : Class) (bs : List ℕ) (rows : ℕ)

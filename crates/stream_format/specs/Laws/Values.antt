@@ -4,8 +4,8 @@ use Rattle.std.proofs.Common.{arith, drop_of_length-le}
 use Rattle.stream_format.specs.Kinds.{kinds, kind_of, kind_byte, class_of, body_of}
 use Rattle.stream_format.specs.Read.{ints_at, values_under, values_from}
 use Rattle.stream_format.specs.Laws.Kinds.{values_in, body_holds}
-use Rattle.stream_format.specs.declared.Class.{Class}
-use Rattle.stream_format.specs.declared.Class.TheVariants.{Unknown, PreferenceRecord, NamedRecord, RunRecord}
+use Rattle.stream_format.specs.Kinds.{Class}
+use Rattle.stream_format.specs.Kinds.{Unknown, PreferenceRecord, NamedRecord, RunRecord}
 
 values_in_lem : (class : Class) (bs : List ℕ) → length (values_under class bs) ≡ values_in class
 unfolding ints_at

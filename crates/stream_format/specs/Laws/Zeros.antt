@@ -9,8 +9,8 @@ use Rattle.stream_format.specs.Kinds.{class_of}
 use Rattle.stream_format.specs.Read.{preference_of, named_of, zero_list, add_preference, add_named, list_after}
 use Rattle.stream_format.specs.Read.{with_record, unless_refused, step, start, records, end_refusal, finish, read_of}
 use Rattle.stream_format.specs.Laws.Read.{step_keeps, steps_keep}
-use Rattle.stream_format.specs.declared.Class.{Class}
-use Rattle.stream_format.specs.declared.Class.TheVariants.{Unknown, PreferenceRecord, NamedRecord, RunRecord}
+use Rattle.stream_format.specs.Kinds.{Class}
+use Rattle.stream_format.specs.Kinds.{Unknown, PreferenceRecord, NamedRecord, RunRecord}
 use Rattle.stream_format.specs.ReadAnswer.{ReadAnswer}
 
 -- what stands past the counts of a list is zero

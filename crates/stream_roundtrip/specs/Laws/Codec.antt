@@ -18,8 +18,8 @@ use Rattle.stream_format.specs.Read.{constructor_of, preference_of, named_of, in
 use Rattle.stream_format.specs.Write.{kind_for, between_bytes, constructor_bytes, preference_bytes, named_bytes}
 use Rattle.stream_format.specs.Write.{ints_bytes, run_bytes}
 use Rattle.stream_format.specs.Laws.Lengths.{int_long}
-use Rattle.stream_format.specs.declared.Class.{Class}
-use Rattle.stream_format.specs.declared.Class.TheVariants.{Unknown, PreferenceRecord, NamedRecord, RunRecord}
+use Rattle.stream_format.specs.Kinds.{Class}
+use Rattle.stream_format.specs.Kinds.{Unknown, PreferenceRecord, NamedRecord, RunRecord}
 use Rattle.stream_roundtrip.specs.Terms.{ConstructorFits, LogFits}
 
 -- ---- what is read where a record was written

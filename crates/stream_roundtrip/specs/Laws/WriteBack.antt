@@ -36,8 +36,8 @@ use Rattle.stream_format.specs.Laws.Read.{steps_ended}
 use Rattle.stream_format.specs.Laws.Values.{values_end}
 use Rattle.stream_format.specs.Laws.Rows.{refused_stays}
 use Rattle.stream_format.specs.Laws.Accepted.{records_end, read_accepted}
-use Rattle.stream_format.specs.declared.Class.{Class}
-use Rattle.stream_format.specs.declared.Class.TheVariants.{Unknown, PreferenceRecord, NamedRecord, RunRecord}
+use Rattle.stream_format.specs.Kinds.{Class}
+use Rattle.stream_format.specs.Kinds.{Unknown, PreferenceRecord, NamedRecord, RunRecord}
 use Rattle.stream_format.specs.ReadAnswer.{ReadAnswer}
 use Rattle.stream_roundtrip.specs.Terms.{WritesAs}
 use Rattle.stream_roundtrip.specs.Laws.Added.{preference_new, preference_old, named_new, named_old}

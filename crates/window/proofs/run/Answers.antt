@@ -1,60 +1,41 @@
-use Rattle.std.specs.Prelude.{length}
+use Rattle.std.specs.Prelude.{◌≡◌, length}
 use Rattle.std.proofs.Common.{sym}
-use Rattle.std.proofs.lemmas.Result.{err_from_is_err_and}
 use Rattle.run_log.specs.Log.{log_of}
-use Rattle.refusal.specs.Laws.Refusal.{number_some}
-use Rattle.pareto.specs.Laws.Call.{leaves_refused, leaves_accepted}
+use Rattle.pareto.specs.Laws.Call.{leaves_exit, leaves_accepted}
 use Rattle.pareto.specs.Laws.Checked.{refused_first, refused_more, by_rows}
-use Rattle.window.specs.Engine.{window_refusal, window_call}
+use Rattle.window.specs.Engine.{window_refusal}
 use Rattle.window.specs.Laws.Accepted.{accepted}
+use Rattle.window.proofs.run.Goals.{In_ok-check_rows}
 use Rattle.window.proofs.run.Goals as goal
+
+-- the checks have passed
+checked : (c : In_ok-check_rows)
+    → window_refusal c.args.list (log_of c.args.log.now) (length c.args.marks.now) (length c.args.work.now) c.args.w ≡ 0
+unfolding window_refusal
+checked c = sym (by_rows _ _ _ _ c.in_ok-check.ensures c.in_ok-check_sizes.ensures c.in_ok-check_rows.ensures)
 
 pub returns-in_err-check-clause-leaves : goal.returns-in_err-check-clause-leaves
 unfolding window_refusal
 returns-in_err-check-clause-leaves c =
-    let a = c.args in
-    let log = log_of a.log.now in
-    let p = err_from_is_err_and c.from_residual.result c.from_residual.ensures.1 in
-    rw (p.1, p.2)
-    (leaves_refused (window_call a.list log (length a.marks.now) (length a.work.now) a.w) a.marks.now _
-    (sym (refused_first a.list log _ _ c.in_err-check.ensures)) (number_some _))
+    leaves_exit _ _ _ _ c.from_residual.ensures.1 (refused_first _ _ _ _ c.in_err-check.ensures)
 
 pub returns-in_err-check_sizes-clause-leaves : goal.returns-in_err-check_sizes-clause-leaves
 unfolding window_refusal
 returns-in_err-check_sizes-clause-leaves c =
-    let a = c.args in
-    let log = log_of a.log.now in
-    let p = err_from_is_err_and c.from_residual-in_err-check_sizes.result c.from_residual-in_err-check_sizes.ensures.1 in
-    rw (p.1, p.2)
-    (leaves_refused (window_call a.list log (length a.marks.now) (length a.work.now) a.w) a.marks.now _
-    (sym (refused_more a.list log _ _ c.in_ok-check.ensures c.in_err-check_sizes.ensures)) (number_some _))
+    leaves_exit _ _ _ _ c.from_residual-in_err-check_sizes.ensures.1
+    (refused_more _ _ _ _ c.in_ok-check.ensures c.in_err-check_sizes.ensures)
 
 pub returns-in_err-check_rows-clause-leaves : goal.returns-in_err-check_rows-clause-leaves
 unfolding window_refusal
 returns-in_err-check_rows-clause-leaves c =
-    let a = c.args in
-    let log = log_of a.log.now in
-    let p = err_from_is_err_and c.from_residual-in_err-check_rows.result c.from_residual-in_err-check_rows.ensures.1 in
-    rw (p.1, p.2)
-    (leaves_refused (window_call a.list log (length a.marks.now) (length a.work.now) a.w) a.marks.now _
-    (sym (by_rows a.list log _ _ c.in_ok-check.ensures c.in_ok-check_sizes.ensures c.in_err-check_rows.ensures)) (number_some _))
+    leaves_exit _ _ _ _ c.from_residual-in_err-check_rows.ensures.1
+    (by_rows _ _ _ _ c.in_ok-check.ensures c.in_ok-check_sizes.ensures c.in_err-check_rows.ensures)
 
 pub run_accepted-requires : goal.run_accepted-requires
-unfolding window_refusal
-run_accepted-requires c =
-    let a = c.args in
-    accepted a.list (log_of a.log.now) (length a.marks.now) (length a.work.now) a.w
-    (sym (by_rows a.list (log_of a.log.now) _ _ c.in_ok-check.ensures c.in_ok-check_sizes.ensures c.in_ok-check_rows.ensures))
+run_accepted-requires c = accepted _ _ _ _ _ (checked (goal.at.run_accepted-requires c).In_ok-check_rows)
 
 pub returns : goal.returns
-unfolding window_refusal
 returns c =
-    let a = c.args in
-    let log = log_of a.log.now in
-    let z = sym (by_rows a.list log _ _ c.in_ok-check.ensures c.in_ok-check_sizes.ensures c.in_ok-check_rows.ensures) in
-    let r = c.run_accepted in
-    record {
-      leaves = leaves_accepted (window_call a.list log (length a.marks.now) (length a.work.now) a.w) a.marks.now r.result
-          r.new.marks z r.ensures.0 r.ensures.1;
-      work_left = λ h. absurd (h z);
-    }
+    let z = checked (goal.at.returns c).In_ok-check_rows in
+    let r = c.run_accepted.ensures in
+    record { leaves = leaves_accepted _ _ _ _ z r.0 r.1; work_left = λ h. absurd (h z) }

@@ -1,12 +1,9 @@
 use Rattle.std.proofs.Common.{◌≡◌, refl, arith, rules, ◌+◌, ◌-◌}
-use Rattle.window_passes.proofs.Running.{running_start, running_ready, running_last, running_more, running_out}
+use Rattle.window_passes.proofs.Running.{running_start, running_last, running_more, running_out}
 use Rattle.window_passes.proofs.all_passes.Goals as goal
 
 pub loop-pass-init : goal.loop-pass-init
 loop-pass-init c = let e : c.args.fuel - 0 ≡ c.args.fuel = omega arith in rw e (running_start c.requires)
-
-pub one_pass-requires : goal.one_pass-requires
-one_pass-requires c = (running_ready c.requires c.loop-pass.invariant (omega arith), c.loop-pass.invariant.ordered)
 
 pub returns-then-waiting-eq0 : goal.returns-then-waiting-eq0
 returns-then-waiting-eq0 c =

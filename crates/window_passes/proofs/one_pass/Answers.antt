@@ -1,8 +1,5 @@
-use Rattle.window_passes.proofs.Passing.{passing_start, passing_ready, passing_rising, passing_step, passing_end}
+use Rattle.window_passes.proofs.Passing.{passing_ready, passing_rising, passing_step, passing_end}
 use Rattle.window_passes.proofs.one_pass.Goals as goal
-
-pub loop-i-init : goal.loop-i-init
-loop-i-init c = passing_start c.requires.0 c.requires.1
 
 pub read-requires : goal.read-requires
 read-requires c = (passing_ready c.requires.0 c.loop-i.invariant c.loop-i-test.true, passing_rising c.requires.0 c.loop-i.invariant)
