@@ -21,35 +21,25 @@ fn signed(answer: Result<u16, Refusal>) -> i32
 
 // The shortlist of a stream, by the lattice engine within a budget of crossings. The two calls stand apart:
 // one that is handed the engine would be no shorter.
-fn by_lattice(stream: &[u8], marks: &mut [u8], budget: u32) -> Result<u16, Refusal>
-    ensures { Leaves (flat_lattice_call stream.now (length marks.old) budget)
-        marks.old (outcome_of result) marks.new }
-{
-    let mut numbers = [0; limits::MAX_VALUES];
-    let held = selection::read(stream, &mut numbers)?;
-    selection::by_lattice(held.list, held.log, marks, budget)
-}
-
-// The shortlist of a stream, by the window engine with a window of w entries.
-fn by_window(stream: &[u8], marks: &mut [u8], w: u32) -> Result<u16, Refusal>
-    ensures { Leaves (flat_window_call stream.now (length marks.old) w)
-        marks.old (outcome_of result) marks.new }
-{
-    let mut numbers = [0; limits::MAX_VALUES];
-    let held = selection::read(stream, &mut numbers)?;
-    selection::by_window(held.list, held.log, marks, w)
-}
-
 pub fn shortlist_lattice(stream: &[u8], marks: &mut [u8], budget: u32) -> i32
     ensures { Leaves (flat_lattice_call stream.now (length marks.old) budget)
         marks.old (signed_outcome result) marks.new }
 {
-    signed(by_lattice(stream, marks, budget))
+    let mut numbers = [0; limits::MAX_VALUES];
+    match selection::read(stream, &mut numbers) {
+        Ok(held) => signed(selection::by_lattice(held.list, held.log(&numbers), marks, budget)),
+        Err(refusal) => signed(Err(refusal)),
+    }
 }
 
+// The shortlist of a stream, by the window engine with a window of w entries.
 pub fn shortlist_window(stream: &[u8], marks: &mut [u8], w: u32) -> i32
     ensures { Leaves (flat_window_call stream.now (length marks.old) w)
         marks.old (signed_outcome result) marks.new }
 {
-    signed(by_window(stream, marks, w))
+    let mut numbers = [0; limits::MAX_VALUES];
+    match selection::read(stream, &mut numbers) {
+        Ok(found) => signed(selection::by_window(found.list, found.log(&numbers), marks, w)),
+        Err(why) => signed(Err(why)),
+    }
 }

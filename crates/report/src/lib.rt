@@ -35,7 +35,7 @@ fn put_report(out: &mut Output<'_>, stream: &[u8])
 {
     let mut numbers = [0; limits::MAX_VALUES];
     match selection::read(stream, &mut numbers) {
-        Ok(held) => put_selected(out, held.list, held.log),
+        Ok(held) => put_selected(out, held.list, held.log(&numbers)),
         Err(unread) => report_lines::put_refused(out, u64::from(unread)),
     }
 }

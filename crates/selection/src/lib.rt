@@ -1,11 +1,11 @@
 // Best matches by an engine that brings its own work space.
 #![tactic(auto)]
 
-ghost use Rattle.std.specs.Prelude.{◌≡◌, ◌==◌, ◌≤◌, length, take, count_by, IfOk};
-ghost use Rattle.limits.specs.Limits.{max_values, max_runs, max_nodes, max_work};
+ghost use Rattle.std.specs.Prelude.{◌≡◌, ◌==◌, ◌*◌, ◌≤◌, length, take, count_by, IfOk};
+ghost use Rattle.limits.specs.Limits.{columns, max_values, max_runs, max_nodes, max_work};
 ghost use Rattle.refusal.specs.Refusal.{refusal_of, outcome_of};
 ghost use Rattle.run_log.specs.Log.{log_of, row_count, marked_rows};
-ghost use Rattle.stream_format.specs.Read.{read_of};
+ghost use Rattle.stream_format.specs.Read.{read_of, log_after};
 ghost use Rattle.pareto.specs.Call.{counting, Leaves};
 ghost use Rattle.lattice.specs.Engine.{lattice_call};
 ghost use Rattle.window.specs.Engine.{window_call};
@@ -17,26 +17,35 @@ use refusal::Refusal;
 
 // ---- what a stream holds
 
-// The list of a stream, and its log as a part of lent numbers.
+// The list of a stream, and how many rows its log has: they stand at the front of the numbers that it was read into.
 #[derive(Clone, Copy)]
-pub struct Held<'a> {
+pub struct Held {
     pub list: PreferenceList,
-    pub log: &'a [i32],
+    pub rows: usize,
+    pub ghost fits: { columns * rows ≤ max_values },
+}
+
+impl Held {
+    // The log, of the numbers that the stream was read into.
+    pub fn log<'a>(&self, numbers: &'a [i32; limits::MAX_VALUES]) -> &'a [i32]
+        ensures { result.now ≡ take (columns * self.now.rows) numbers.now }
+    {
+        &numbers[..limits::COLUMNS * self.rows]
+    }
 }
 
 // Reads a stream into lent numbers: there is room for every log.
-pub fn read<'a>(
-    stream: &[u8],
-    numbers: &'a mut [i32; limits::MAX_VALUES],
-) -> Result<Held<'a>, Refusal>
+pub fn read(stream: &[u8], numbers: &mut [i32; limits::MAX_VALUES]) -> Result<Held, Refusal>
     ensures refused { refusal_of result ≡ (read_of stream.now max_values).refusal }
     ensures held { IfOk result
-        (λ held. (held.list ≡ list_in stream.now) × (held.log.now ≡ (log_in stream.now).values)) }
+        (λ held. (held.list ≡ list_in stream.now)
+        × (take (columns * held.rows) numbers.new ≡ (log_in stream.now).values)) }
+    ensures left { numbers.new ≡ log_after stream.now numbers.old }
 {
     let read = stream_reader::read(stream, numbers)?;
     Ok(Held {
         list: read.list,
-        log: &numbers[..limits::COLUMNS * read.rows],
+        rows: read.rows,
     })
 }
 

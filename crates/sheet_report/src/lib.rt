@@ -40,7 +40,7 @@ pub fn print(stream: &[u8], out: &mut [u8]) -> Result<usize, Refusal>
 {
     let mut numbers = [0; limits::MAX_VALUES];
     let held = selection::read(stream, &mut numbers)?;
-    print_selected(held.list, held.log, out)
+    print_selected(held.list, held.log(&numbers), out)
 }
 
 // The line of a refusal, from the first byte on.

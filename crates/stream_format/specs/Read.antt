@@ -154,10 +154,10 @@ refused_at n place = record { refusal = n; place = place; rows = 0; list = zero_
 abbrev pub reading : ℕ → ℕ → PreferenceList → ReadAnswer
 reading place rows l = record { refusal = 0; place = place; rows = rows; list = l }
 
--- what a call's answer says of a stream of n bytes
-abbrev pub read_answer : ℕ → Result StreamRead ReadRefusal → ReadAnswer
-read_answer n (Ok r) = reading n r.rows r.list
-read_answer n (Err e) = refused_at (number e.refusal) e.place
+-- what a call's answer says of a stream
+abbrev pub read_answer : Result StreamRead ReadRefusal → ReadAnswer
+read_answer (Ok r) = reading r.place r.rows r.list
+read_answer (Err e) = refused_at (number e.refusal) e.place
 
 -- before the first record
 abbrev pub start : ReadAnswer

@@ -96,9 +96,11 @@ impl RecordKind {
     }
 }
 
-// What an accepted stream holds: the rows read, and the wish list.
+// What reading an accepted stream tells: the byte place that it came to, which is the stream's length, the rows
+// read, and the wish list.
 #[derive(Clone, Copy)]
 pub struct StreamRead {
+    pub place: usize,
     pub rows: usize,
     pub list: PreferenceList,
 }

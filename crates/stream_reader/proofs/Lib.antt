@@ -4,3 +4,4 @@ pub mod Part
 pub mod Placed
 pub mod PutRuns
 pub mod Records
+pub mod Runs

@@ -22,14 +22,14 @@ module _ (s : List ℕ) (log : List ℤ) where
   early e place q = rw (← q) (rw (ne_eqb (number e) 0 (number_some e)))
 
   -- 1 or 10 comes at the end, or nothing
-  module _ (rows : ℕ) (l : PreferenceList) (q : reading (length s) rows l ≡ records s) where
+  module _ (place rows : ℕ) (l : PreferenceList) (q : reading place rows l ≡ records s) where
     pub late : (e : Refusal) → number e ≡ end_refusal (reading 0 rows l) (length log)
         → refused_at (number e) (length s) ≡ read_of s (length log)
     unfolding read_of finish end_refusal
     late e z =
-        rw (← q) (rw (← z) (sym (unless_some (number e) (length s) (reading (length s) rows l) (number_some e))))
+        rw (← q) (rw (← z) (sym (unless_some (number e) (length s) (reading place rows l) (number_some e))))
 
-    pub whole : 0 ≡ end_refusal (reading 0 rows l) (length log) → reading (length s) rows l ≡ read_of s (length log)
+    pub whole : 0 ≡ end_refusal (reading 0 rows l) (length log) → reading place rows l ≡ read_of s (length log)
     unfolding read_of finish end_refusal
     whole z = rw (← q) (rw (← z))
 
@@ -39,7 +39,7 @@ module _ (s : List ℕ) (log : List ℤ) where
   kept e place q = rw (← q) (rw (ne_eqb (number e) 0 (number_some e)))
 
   -- the runs of an accepted stream stand at its end, and there is room for them
-  module _ (rows : ℕ) (l : PreferenceList) (q : reading (length s) rows l ≡ read_of s (length log)) where
+  module _ (place rows : ℕ) (l : PreferenceList) (q : reading place rows l ≡ read_of s (length log)) where
     none : (read_of s (length log)).refusal ≡ 0
     none = ap (λ (r : ReadAnswer). r.refusal) (sym q)
 

@@ -16,11 +16,11 @@ pub placed_ok : {A : Type 0} (r : Result A Refusal) (place : ℕ) (x : A) → Ok
 placed_ok (Ok y) place x h = cc
 placed_ok (Err e) place x h = cc
 
-pub placed_err : {A : Type 0} (r : Result A Refusal) (place n : ℕ) (d : ReadRefusal) (q : Result StreamRead ReadRefusal)
+pub placed_err : {A : Type 0} (r : Result A Refusal) (place : ℕ) (d : ReadRefusal) (q : Result StreamRead ReadRefusal)
     → Err d ≡ placed place r → IsErrAnd q (λ y. y ≡ d)
-    → (r ≡ Err d.refusal) × (read_answer n q ≡ refused_at (number d.refusal) place)
-placed_err (Ok x) place n d q h k = cc
-placed_err (Err e) place n d q h k =
+    → (r ≡ Err d.refusal) × (read_answer q ≡ refused_at (number d.refusal) place)
+placed_err (Ok x) place d q h k = cc
+placed_err (Err e) place d q h k =
     let p = err_from_is_err_and q k in
     let f : d ≡ record { refusal = e; place = place } = cc in
     rw (p.1, p.2, f) (refl, refl)

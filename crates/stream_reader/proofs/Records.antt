@@ -1,6 +1,6 @@
 -- Reading record by record: the record at the place that was read up to, and the end.
 use Rattle.std.specs.Prelude.{◌≡◌, ℕ, ◌<◌, ◌≤◌, List, length, true, false}
-use Rattle.std.proofs.Common.{sym, ap, ◌∙◌}
+use Rattle.std.proofs.Common.{ap, ◌∙◌}
 use borrow.Author.Tests.{lt-ltb, le-ltb, ne_eqb}
 use Rattle.refusal.specs.Refusal.{number}
 use Rattle.refusal.specs.Laws.Refusal.{number_some}
@@ -9,7 +9,6 @@ use Rattle.preference.specs.declared.PreferenceList.{PreferenceList}
 use Rattle.stream_format.specs.Read.{refused_at, reading, take_record, goes, step, records}
 use Rattle.stream_format.specs.ReadAnswer.{ReadAnswer}
 use Rattle.stream_format.specs.Midway.{Midway, to_read}
-use Rattle.stream_format.specs.Laws.Accepted.{records_end}
 use Rattle.stream_format.specs.Laws.Read.{midway_step, midway_end, to_read_falls}
 use Rattle.stream_reader.proofs.Part.{lent, part}
 
@@ -34,10 +33,5 @@ module _ (s : List ℕ) (r : ReadAnswer) (m : Midway s r) where
 
 -- the end of the stream
 pub read_out : (s : List ℕ) (place rows : ℕ) (l : PreferenceList) → Midway s (reading place rows l) → length s ≤ place
-    → reading (length s) rows l ≡ records s
-read_out s place rows l m end =
-    let r = reading place rows l in
-    let e : r ≡ records s = midway_end s r (le-ltb place (length s) end) m in
-    let z : (records s).refusal ≡ 0 = ap (λ (x : ReadAnswer). x.refusal) (sym e) in
-    let there : length s ≡ place = sym (records_end s z) ∙ ap (λ (x : ReadAnswer). x.place) (sym e) in
-    ap (λ (n : ℕ). reading n rows l) there ∙ e
+    → reading place rows l ≡ records s
+read_out s place rows l m end = midway_end s (reading place rows l) (le-ltb place (length s) end) m

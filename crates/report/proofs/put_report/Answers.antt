@@ -1,5 +1,5 @@
 use Rattle.std.specs.Prelude.{◌≡◌, []}
-use Rattle.std.proofs.Common.{arith, ap}
+use Rattle.std.proofs.Common.{arith, ap, ◌∙◌}
 use Rattle.run_log.specs.Log.{log_of}
 use Rattle.pareto.specs.Call.{Call}
 use Rattle.refusal.specs.Refusal.{number}
@@ -14,9 +14,9 @@ pub returns-in-Ok : goal.returns-in-Ok
 returns-in-Ok c =
     let s = c.args.stream.now in
     let h = c.in-Ok.ensures in
-    let e = stream_call s (λ l rows. either_call l rows 1024) [] _ _ h.refused h.held.0 (ap log_of h.held.1) in
+    let e = stream_call s (λ l rows. either_call l rows 1024) [] _ _ h.refused h.held.0 (ap log_of (c.log.ensures ∙ h.held.1)) in
     record {
-      writes = rw (read_text s _ _ h.refused h.held.0 (ap log_of h.held.1)) at c.put_selected.ensures.writes;
+      writes = rw (read_text s _ _ h.refused h.held.0 (ap log_of (c.log.ensures ∙ h.held.1))) at c.put_selected.ensures.writes;
       number_bound = omega (arith, ap (λ (x : Call). x.refusal) e, c.put_selected.ensures.max_runs_bound);
     }
 

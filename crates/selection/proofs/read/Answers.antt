@@ -26,15 +26,10 @@ front : (s : List ℕ) (lent log : List ℤ) (place rows : ℕ) (l : PreferenceL
 front s lent log place rows l e f =
     rw (f, rows_are s (length lent) place rows l e) (log_read s lent (none s (length lent) place rows l e))
 
-pub overflow_mul-result : goal.overflow_mul-result
-overflow_mul-result c =
+pub invariant_of-result : goal.invariant_of-result
+invariant_of-result c =
     let a = c.args in
     let f = fits a.stream.now (length a.numbers.now) _ _ _ c.in_ok-read.ensures.answer in record { fits = omega (arith, c.told-numbers) }
-
-pub shared_ref_as_front-result : goal.shared_ref_as_front-result
-shared_ref_as_front-result c =
-    let a = c.args in
-    let f = fits a.stream.now (length a.numbers.now) _ _ _ c.in_ok-read.ensures.answer in omega (arith, c.told-numbers)
 
 pub returns-clause-held : goal.returns-clause-held
 returns-clause-held c =

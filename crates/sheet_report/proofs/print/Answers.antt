@@ -1,4 +1,4 @@
-use Rattle.std.proofs.Common.{ap}
+use Rattle.std.proofs.Common.{ap, ◌∙◌}
 use Rattle.selection.specs.Laws.Exit.{exit}
 use Rattle.run_log.specs.Log.{log_of}
 use Rattle.refusal.specs.Refusal.{outcome_of}
@@ -14,4 +14,5 @@ pub returns : goal.returns
 returns c =
     let a = c.args in
     let h = c.in_ok-held.ensures in
-    read_left a.stream.now a.out.now _ _ (outcome_of c.print_selected.result) _ h.refused h.held.0 (ap log_of h.held.1) c.print_selected.ensures
+    let log = ap log_of (c.log.ensures ∙ h.held.1) in
+    read_left a.stream.now a.out.now _ _ (outcome_of c.print_selected.result) _ h.refused h.held.0 log c.print_selected.ensures
