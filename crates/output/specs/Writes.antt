@@ -8,8 +8,11 @@ pub record Contents : Type 0 where
   pub at : ℕ
   pub limit : ℕ
 
+abbrev pub content : List ℕ → ℕ → ℕ → Contents
+content bytes at limit = record { bytes = bytes; at = at; limit = limit }
+
 abbrev pub contents : Output → Contents
-contents o = record { bytes = o.bytes.now; at = o.at; limit = o.limit }
+contents o = content o.bytes.now o.at o.limit
 
 -- one byte more, as far as there is room; nothing goes past the limit
 unfoldable pub with_byte : Contents → ℕ → Contents

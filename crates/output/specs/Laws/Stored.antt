@@ -1,10 +1,11 @@
 -- What was put out stands in the lent bytes.
-use Rattle.std.specs.Prelude.{◌≡◌, refl, ℕ, suc, ◌+◌, ◌-◌, ◌≤◌, Bool, true, false, cond, List, [], ◌∷◌, ◌++◌, ltb, length, set, take}
-use Rattle.std.proofs.Common.{sym, ap, ◌∙◌, arith, ltb-true, ltb-false}
+use Rattle.std.specs.Prelude.{◌≡◌, refl, ℕ, suc, ◌+◌, ◌-◌, ◌≤◌, Bool, true, false, cond, List, [], ◌∷◌, ◌++◌, ltb, length, set, take, drop}
+use Rattle.std.proofs.Common.{sym, ap, ◌∙◌, arith, ltb-true, ltb-false, append_assoc, drop-drop}
 use Rattle.std.proofs.Math.Seq.{take-nil}
 use Rattle.std.proofs.lemmas.List.{take_all}
-use Rattle.std.proofs.lemmas.List.Edits.{sets}
+use Rattle.std.proofs.lemmas.List.Edits.{sets, sets-eq}
 use Rattle.laws.specs.Lists.{joined}
+use Rattle.laws.specs.Laws.Stores.{sets_out}
 use Rattle.output.specs.declared.Output.{Output}
 use Rattle.output.specs.Prints.{output_end, within, Prints}
 use Rattle.output.specs.Laws.Writes.{with_then, with_turn}
@@ -35,6 +36,25 @@ pub with_within : (c : Contents) (x : List ℕ) → with_bytes c x ≡ stored c 
 unfolding with_bytes with_byte
 with_within c [] = rw (take-nil (c.limit - c.at)) (grind arith)
 with_within c (b ∷ x) = stored_more c b x (λ d. with_within d x) (ltb c.at c.limit) refl
+
+-- bytes that stay before the limit, where there is room for all of them, or for none
+module _ (c : Contents) (x : List ℕ) (fits : length x ≤ c.limit - c.at) where
+  abbrev ended : List ℕ → Contents
+  ended bytes = record { bytes = bytes; at = c.at + length x; limit = c.limit }
+
+  whole : with_bytes c x ≡ ended (sets c.bytes c.at x)
+  whole = rw (take_all (c.limit - c.at) x fits) at (with_within c x)
+
+  pub with_whole : c.at + length x ≤ length c.bytes
+      → with_bytes c x ≡ ended (take c.at c.bytes ++ (x ++ drop (length x) (drop c.at c.bytes)))
+  with_whole h =
+      let e = sets-eq x c.bytes c.at h ∙ append_assoc (take c.at c.bytes) x (drop (c.at + length x) c.bytes) in
+      let b : sets c.bytes c.at x ≡ take c.at c.bytes ++ (x ++ drop (length x) (drop c.at c.bytes)) =
+      rw (drop-drop (length x) c.at c.bytes) e in
+      whole ∙ ap ended b
+
+  pub with_past : length c.bytes ≤ c.at → with_bytes c x ≡ ended c.bytes
+  with_past h = whole ∙ ap ended (sets_out c.bytes c.at x h)
 
 pub writes_puts : {a b : Output} {x : List ℕ} → Writes a b x
     → Puts a.bytes.now b.bytes.now a.at b.at (take (a.limit - a.at) x)
