@@ -1,8 +1,9 @@
 -- Weights told from the last part on.
-use Rattle.std.specs.Prelude.{◌≡◌, ℕ, suc, ◌+◌, ◌-◌, ◌*◌, ◌<◌, ◌≤◌, List, [], ◌∷◌, get_or, length, drop}
+use Rattle.std.specs.Prelude.{◌≡◌, ℕ, suc, ◌+◌, ◌-◌, ◌*◌, ◌<◌, ◌≤◌, List, [], ◌∷◌, ◌++◌, get_or, length, drop, reverse}
 use Rattle.std.proofs.Common.{◌∙◌, refl, arith, drop-cons, length-drop, mul_comm, lt-ltb, le-ltb}
 use Rattle.std.proofs.Math.Nat.{mul-le-mul}
 use Rattle.std.proofs.Math.Seq.{drop-length}
+use Rattle.std.proofs.lemmas.List.{reverse-append, reverse-reverse, length-reverse}
 use Rattle.laws.specs.Laws.Checks.{gives_yes, gives_no}
 use Rattle.preference.specs.Valid.{list_refusal}
 use Rattle.preference.specs.Parts.{max_levels}
@@ -18,11 +19,11 @@ module _ (ms : List ℕ) where
   pub nodes_end : node_count (drop (length ms) ms) ≡ 1
   nodes_end = rw (drop-length ms) (unfold node_count in refl)
 
-  pub weights_end : weights_of (drop (length ms) ms) ≡ []
+  pub weights_end : reverse (weights_of (drop (length ms) ms)) ≡ []
   weights_end = rw (drop-length ms) (unfold weights_of in refl)
 
-  pub weights_long : (i : ℕ) → length (weights_of (drop i ms)) ≡ length ms - i
-  weights_long i = rw (weights_length (drop i ms), length-drop i ms)
+  pub weights_long : (i : ℕ) → length (reverse (weights_of (drop i ms))) ≡ length ms - i
+  weights_long i = rw (length-reverse (weights_of (drop i ms)), weights_length (drop i ms), length-drop i ms)
 
   -- one part more
   module _ (i : ℕ) (some : 0 < i) (within : i ≤ length ms) where
@@ -33,9 +34,13 @@ module _ (ms : List ℕ) where
     unfolding node_count
     nodes_more = rw split (mul_comm (node_count (drop i ms)) (get_or ms (i - 1) 0 + 1))
 
-    pub weights_more : weights_of (drop (i - 1) ms) ≡ node_count (drop i ms) ∷ weights_of (drop i ms)
+    pub weights_more : reverse (weights_of (drop (i - 1) ms)) ≡ reverse (weights_of (drop i ms)) ++ (node_count (drop i ms) ∷ [])
     unfolding weights_of
-    weights_more = rw split
+    weights_more = rw split (reverse-append (node_count (drop i ms) ∷ []) (weights_of (drop i ms)))
+
+  -- turned round, they are in order
+  pub weights_turned : reverse (reverse (weights_of (drop 0 ms))) ≡ weights_of ms
+  weights_turned = reverse-reverse (weights_of ms)
 
 -- greatest levels are small, and so is a product of them
 pub top_small : (l : PreferenceList) (k : ℕ) → list_refusal l ≡ 0 → get_or (max_levels l) k 0 ≤ 65535
@@ -50,6 +55,7 @@ pub ruleset weighing = (
   weights_long,
   nodes_more,
   weights_more,
+  weights_turned,
   top_small,
   product_small,
   drop_nodes,
