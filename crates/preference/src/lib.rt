@@ -119,11 +119,11 @@ fn check_column(list: &PreferenceList, n: usize, column: u8) -> Result<(), Refus
 
 // A preference at place n of the list. These checks look at a list that stays where it is: they are made for each
 // place.
+#[tactic(auto, using(crate::proofs::Both::both), unfolding(crate::specs::Valid::preference_refusal))]
 fn check_at(list: &PreferenceList, n: usize, p: Preference) -> Result<(), Refusal>
     ensures { refusal_of result ≡ preference_refusal list.now n p }
 {
-    check_column(list, n, p.column)?;
-    p.constructor.check()
+    check_column(list, n, p.column).and(p.constructor.check())
 }
 
 // The preference p at place n of the list: 5, 6, or 7.

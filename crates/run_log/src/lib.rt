@@ -59,7 +59,7 @@ pub fn check_marks(log: &[i32], marks: usize) -> Result<(), Refusal>
 fn some_no_mark(log: &[i32], marks: &[u8]) -> bool
     ensures { result ≡ any_below (λ r. ltb 1 (get_or marks.now r 0)) (row_count log.now) }
 {
-    marks.iter().take(row_count(log)).any(|mark| 1 < *mark)
+    (0..row_count(log)).any(|r| marks.get(r).is_some_and(|mark| 1 < *mark))
 }
 
 // 14 where the byte of a row is no mark. For calls that are handed marks, as the shift sheet is.

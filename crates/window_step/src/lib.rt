@@ -8,7 +8,8 @@ ghost use Rattle.std.specs.Prelude.{◌≡◌, ◌+◌, ◌≤◌, length};
 ghost use Rattle.limits.specs.Limits.{max_runs, max_window};
 
 use pareto::Relation;
-use scanning::{Verdict, Window};
+use scanning::Window;
+pub use scanning::{Front, Verdict};
 use window_entries::Entry;
 
 // Where the machine stands, beside its lists: entries in the window, entries set aside, the clock, the compares made.
