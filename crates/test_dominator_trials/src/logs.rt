@@ -91,7 +91,8 @@ pub fn all(rt: &(impl Print + AllocGlobal)) -> io::Result<()> {
         .try_collect(alloc)?;
     let tried = tried.as_slice();
     println!(rt;
-        "generated logs {LOGS} refused 8: {} sixteen parts: {} rows {} refused 13: {} differing {}",
+        "generated logs {} refused 8: {} sixteen parts: {} rows {} refused 13: {} differing {}",
+        tried.len(),
         counts::total(tried, |t| usize::from(t.accepted.is_none())),
         counts::total(tried, |t| usize::from(t.has_sixteen())),
         counts::total(tried, |t| t.accepted.map_or(0, |log| log.figures.all)),

@@ -37,11 +37,14 @@ fn byte_of(table: &[Vec<u32>], digits: &[u32]) -> u8 {
     u8::from(own) + 2 * u8::from(nested::is_beaten(table, digits))
 }
 
-// The edges that leave a node: the parts whose digit is below its greatest level.
-fn leaving(digits: &[u32], tops: &[u32]) -> usize {
+// The edges that leave a node: the parts, sixteen at most, whose digit is below its greatest level.
+fn leaving(digits: &[u32], tops: &[u32]) -> usize
+    ensures { result ≤ 16 }
+{
     digits
         .iter()
         .zip(tops)
+        .take(16)
         .filter(|(digit, top)| digit < top)
         .count()
 }

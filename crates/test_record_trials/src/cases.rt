@@ -10,7 +10,7 @@ const ROOM: usize = 8200;
 fn show_read(rt: &impl Print, label: &str, stream: &[u8], room: usize) -> io::Result<()> {
     let mut log = [0i32; ROOM];
     match stream_reader::read(stream, &mut log[..room.min(ROOM)]) {
-        Ok(read) => println!(rt; "{label} 0 {} {}", stream.len(), read.rows),
+        Ok(read) => println!(rt; "{label} 0 {} {}", read.place, read.rows),
         Err(refused) => {
             let number = u8::from(refused.refusal);
             println!(rt; "{label} {number} {} 0", refused.place)

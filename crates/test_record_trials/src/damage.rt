@@ -1,5 +1,5 @@
 // Damaged streams: every prefix, every size of log, and every byte changed to every value.
-ghost use Rattle.std.specs.Prelude.{◌<◌, length};
+ghost use Rattle.std.specs.Prelude.{◌≤◌};
 
 use crate::places;
 use preference::PreferenceList;
@@ -23,14 +23,15 @@ fn comes_back(stream: &[u8], list: PreferenceList, log: &[i32]) -> bool {
         && lent::holds(&out, stream, UNTOUCHED)
 }
 
-// Whether what was read has the counts that are due, leaves places past them zero and the log past its rows as it was,
-// and is written back.
+// Whether what was read has the place and the counts that are due, leaves places past them zero and the log past its
+// rows as it was, and is written back.
 fn is_due(read: StreamRead, counts: Counts, stream: &[u8], log: &[i32]) -> bool {
     let list = read.list;
     let Some((rows, rest)) = log.split_at_checked(read.rows.saturating_mul(8)) else {
         return false;
     };
-    read.rows == counts.rows
+    read.place == stream.len()
+        && read.rows == counts.rows
         && list.count as usize == counts.wishes
         && list.namedcount as usize == counts.names
         && places::zero_past(&list)
@@ -53,47 +54,70 @@ fn agrees(stream: &[u8], room: usize) -> bool {
     }
 }
 
-fn prefixes(stream: &[u8]) -> usize {
-    (0..stream.len())
-        .filter(|n| !agrees(lent::front(stream, *n), ROOM))
-        .count()
+// How many streams were tried, and how many differed.
+#[derive(Clone, Copy, Default)]
+struct Tally {
+    tried: usize,
+    differing: usize,
+}
+
+impl Tally {
+    fn add(&mut self, tried: usize, differing: usize) {
+        self.tried = self.tried.saturating_add(tried);
+        self.differing = self.differing.saturating_add(differing);
+    }
+}
+
+fn prefixes(stream: &[u8]) -> Tally {
+    let mut tally = Tally::default();
+    for n in 0..stream.len() {
+        tally.add(1, usize::from(!agrees(lent::front(stream, n), ROOM)));
+    }
+    tally
 }
 
 // Rooms of every size up to that of eight rows.
-fn rooms(stream: &[u8]) -> usize {
-    (0..=ROOM).filter(|room| !agrees(stream, *room)).count()
+fn rooms(stream: &[u8]) -> Tally {
+    let mut tally = Tally::default();
+    for room in 0..=ROOM {
+        tally.add(1, usize::from(!agrees(stream, room)));
+    }
+    tally
 }
 
-// A byte changed to every value. A loop: each turn writes what the next one writes over, which a filter would hide.
+const BYTES: usize = 256;
+
+// The byte at a place changed to every value, and then back.
 fn values(stream: &mut [u8], at: usize) -> usize
-    requires { at < length stream.old }
+    ensures { result ≤ 256 }
 {
-    let before = stream[at];
+    let before = stream.get(at).copied().unwrap_or(0);
     let mut differing: usize = 0;
-    for value in 0..=u8::MAX {
-        stream[at] = value;
-        differing = differing.saturating_add(usize::from(!agrees(stream, ROOM)));
+    for value in 0..BYTES {
+        word::put(stream, at, value as u8);
+        differing += usize::from(!agrees(stream, ROOM));
     }
-    stream[at] = before;
+    word::put(stream, at, before);
     differing
 }
 
-// A loop, for the same reason.
-fn every_byte(stream: &mut [u8]) -> usize {
-    let mut differing: usize = 0;
+fn every_byte(stream: &mut [u8]) -> Tally {
+    let mut tally = Tally::default();
     for at in 0..stream.len() {
-        differing = differing.saturating_add(values(stream, at));
+        tally.add(BYTES, values(stream, at));
     }
-    differing
+    tally
+}
+
+fn show(rt: &impl Print, label: &str, what: &str, tally: Tally) -> io::Result<()> {
+    println!(rt;
+        "{label} {what} {} differing {}",
+        tally.tried, tally.differing
+    )
 }
 
 pub fn show_damage(rt: &impl Print, label: &str, stream: &mut [u8]) -> io::Result<()> {
-    let length = stream.len();
-    let changes = length.saturating_mul(256);
-    println!(rt; "{label} prefixes {length} differing {}", prefixes(stream))?;
-    println!(rt; "{label} rooms {} differing {}", ROOM + 1, rooms(stream))?;
-    println!(rt;
-        "{label} bytes changed {changes} differing {}",
-        every_byte(stream)
-    )
+    show(rt, label, "prefixes", prefixes(stream))?;
+    show(rt, label, "rooms", rooms(stream))?;
+    show(rt, label, "bytes changed", every_byte(stream))
 }

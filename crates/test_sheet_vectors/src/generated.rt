@@ -6,6 +6,9 @@ use std::alloc::{AllocError, Global};
 use std::array;
 use test_support::figures::Seed;
 
+// The mark bytes that each call is lent: eight more than the most rows.
+const MARK_BYTES: usize = 208;
+
 pub fn rows_of(seed: Seed) -> u16
     ensures { result ≤ 200 }
 {
@@ -13,7 +16,9 @@ pub fn rows_of(seed: Seed) -> u16
 }
 
 // One of four figures that a number of the log is made of, from 0 to n.
-fn drawn(seed: Seed, at: u32, part: u32, n: u16) -> u32 {
+fn drawn(seed: Seed, at: u32, part: u32, n: u16) -> u32
+    ensures { result ≤ n }
+{
     let salt = at.wrapping_mul(4).wrapping_add(part);
     u32::from(seed.upto(salt.wrapping_add(1000), n))
 }
@@ -62,7 +67,7 @@ impl Marked {
             marks.push(mark_of(seed, row))?;
         }
         // Bytes past the rows, which are no marks.
-        marks.extend_from_slice(&[7; 8])?;
+        marks.resize(MARK_BYTES, 7)?;
         Ok(Marked { rows, marks })
     }
 

@@ -51,7 +51,8 @@ pub fn all(rt: &(impl Print + AllocGlobal)) -> io::Result<()> {
         .try_collect(alloc)?;
     let tried = tried.as_slice();
     println!(rt;
-        "generated logs, their runs, pages, and bytes that differ: {LOGS} {} {} {}",
+        "generated logs, their runs, pages, and bytes that differ: {} {} {} {}",
+        tried.len(),
         counts::total(tried, |t| t.runs),
         counts::total(tried, |t| t.pages),
         counts::total(tried, |t| t.differing)

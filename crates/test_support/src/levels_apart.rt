@@ -1,6 +1,8 @@
 // Level vectors and greatest levels as documents 01 and 02 word them, written apart from the product: steps are taken
 // until they cover the distance, the greatest level is looked for at every value from lo to hi, and parts are written
 // down wish by wish. Generated lists need few steps; where 64 are not enough, 64 is what comes back.
+ghost use Rattle.std.specs.Prelude.{◌+◌, ◌≤◌, length, vec_len, IfOk};
+
 use constructor::Constructor;
 use preference::{Named, Preference, PreferenceList};
 use std::alloc::{AllocError, Global};
@@ -72,7 +74,9 @@ fn numeric(c: Constructor, v: u32) -> u32 {
 
 // ---- the list and its values
 
-pub fn wishes(list: &PreferenceList) -> &[Preference] {
+pub fn wishes(list: &PreferenceList) -> &[Preference]
+    ensures { length result.now ≤ 8 }
+{
     let count = list.count as usize;
     &list.preferences[..count.min(list.preferences.len())]
 }
@@ -104,7 +108,9 @@ enum Parts {
 }
 
 impl Parts {
-    fn push_to(self, levels: &mut Vec<u32>) -> Result<(), AllocError> {
+    fn push_to(self, levels: &mut Vec<u32>) -> Result<(), AllocError>
+        ensures { IfOk result (λ done. vec_len levels.new ≤ vec_len levels.old + 2) }
+    {
         match self {
             Parts::One(part) => levels.push(part)?,
             Parts::Two(first, second) => {
@@ -176,7 +182,9 @@ pub fn levels_of(
 }
 
 // The greatest levels likewise.
-pub fn tops_of(alloc: Global, list: PreferenceList) -> Result<Vec<u32>, AllocError> {
+pub fn tops_of(alloc: Global, list: PreferenceList) -> Result<Vec<u32>, AllocError>
+    ensures { IfOk result (λ tops. vec_len tops ≤ 16) }
+{
     let mut tops = Vec::new(alloc);
     for wish in wishes(&list) {
         top_of(wish.constructor).push_to(&mut tops)?;

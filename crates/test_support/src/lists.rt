@@ -69,7 +69,7 @@ impl Column {
     }
 
     fn step(self) -> u16
-        ensures { result ≤ 3 }
+        ensures { (0 < result) × (result ≤ 3) }
     {
         self.upto(16, 2) + 1
     }

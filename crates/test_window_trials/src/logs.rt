@@ -93,7 +93,8 @@ pub fn all(rt: &(impl Print + AllocGlobal)) -> io::Result<()> {
         .try_collect(alloc)?;
     let tried = tried.as_slice();
     println!(rt;
-        "generated logs {LOGS} refused 8: {} sixteen parts: {} best {} compares {} differing {}",
+        "generated logs {} refused 8: {} sixteen parts: {} best {} compares {} differing {}",
+        tried.len(),
         counts::total(tried, |t| usize::from(t.accepted.is_none())),
         counts::total(tried, |t| usize::from(t.has_sixteen())),
         counts::total(tried, |t| t.accepted.map_or(0, |log| log.figures.best)),
