@@ -53,18 +53,32 @@ fn put_runs(out: &mut Output<'_>, log: &[i32])
     }
 }
 
-// Stores the stream from the front of the output on, as far as there is room, and gives the length of all of it.
+// The bytes of a run's record: its kind and its body.
+const RUN_RECORD: usize = 1 + stream_format::RUN_BODY;
+
+// The length of the stream: where its preferences end when they are put out where there is no room, and then its runs,
+// which are all of one length.
 #[tactic(auto, using(crate::proofs::Short::few))]
-fn store(out: &mut [u8], list: &PreferenceList, log: &[i32]) -> usize
+fn stream_length(list: &PreferenceList, log: &[i32]) -> usize
     requires of_list { list_refusal list.now ≡ 0 }
     requires of_log { log_refusal log.now ≡ 0 }
-    ensures length_is { result ≡ length (stream_of list.now log.now) }
-    ensures stored { out.new ≡ sets out.old 0 (stream_of list.now log.now) }
+    ensures { result ≡ length (stream_of list.now log.now) }
+{
+    let mut stream = Output::for_records(&mut []);
+    put_preferences(&mut stream, list);
+    stream.at + RUN_RECORD * run_log::row_count(log)
+}
+
+// Stores the stream from the front of the output on, as far as there is room.
+#[tactic(auto, using(crate::proofs::Short::few))]
+fn store(out: &mut [u8], list: &PreferenceList, log: &[i32])
+    requires of_list { list_refusal list.now ≡ 0 }
+    requires of_log { log_refusal log.now ≡ 0 }
+    ensures { out.new ≡ sets out.old 0 (stream_of list.now log.now) }
 {
     let mut stream = Output::for_records(out);
     put_preferences(&mut stream, list);
     put_runs(&mut stream, log);
-    stream.at
 }
 
 // Writes the stream of a list and a log, and gives its length. Nothing is stored before every check has passed.
@@ -75,7 +89,7 @@ pub fn write(list: PreferenceList, log: &[i32], out: &mut [u8]) -> Result<usize,
 {
     preference::check(list)?;
     run_log::check(log)?;
-    let length = store(&mut [], &list, log);
+    let length = stream_length(&list, log);
     if out.len() < length {
         return Err(Refusal::NoRoom);
     }

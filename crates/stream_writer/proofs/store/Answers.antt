@@ -15,4 +15,4 @@ returns c =
     let records = rw held at c.put_preferences.ensures in
     let puts = writes_whole (writes_then records c.put_runs.ensures) c.for_records-stream.ensures.start (omega arith) in
     let stored = rw c.for_records-stream.ensures.bytes at puts.last_is in
-    record { length_is = omega (arith, puts.next_is); stored = rw (← stored) (search rules) }
+    rw (← stored) (search rules)

@@ -21,16 +21,16 @@ returns-in_err-check-2 c =
 pub returns-then-out-length : goal.returns-then-out-length
 unfolding write_refusal
 returns-then-out-length c =
-    let short = lt-ltb _ _ (rw c.store-length.ensures.length_is at c.if-out-length.true) in
+    let short = lt-ltb _ _ (rw c.stream_length-length.ensures at c.if-out-length.true) in
     let e = then_ok _ _ _ c.in_ok-check.ensures (then_ok _ _ _ c.in_ok-check-2.ensures (sym (gives_yes _ 10 short))) in
     record { answer = refused_by NoRoom _ _ e; left = left_refused _ _ _ NoRoom e }
 
 pub returns : goal.returns
 unfolding write_refusal
 returns c =
-    let room = le-ltb _ _ (rw c.store-length.ensures.length_is at c.if-out-length.false) in
+    let room = le-ltb _ _ (rw c.stream_length-length.ensures at c.if-out-length.false) in
     let e = then_ok _ _ _ c.in_ok-check.ensures (then_ok _ _ _ c.in_ok-check-2.ensures (sym (gives_no _ 10 room))) in
     record {
-      answer = accepted_by _ _ _ (sym e) c.store-length.ensures.length_is;
-      left = c.store.ensures.stored ∙ left_written _ _ _ (sym e);
+      answer = accepted_by _ _ _ (sym e) c.stream_length-length.ensures;
+      left = c.store.ensures ∙ left_written _ _ _ (sym e);
     }
