@@ -3,14 +3,24 @@
 
 ghost use Rattle.std.specs.Prelude.{◌<◌};
 ghost use Rattle.limits.specs.Limits.{max_runs, u32_end};
+ghost use Rattle.refusal.specs.Refusal.{number};
 ghost use Rattle.run_log.specs.Log.{log_of};
 ghost use Rattle.output.specs.Writes.{Writes};
+ghost use Rattle.report_lines.specs.Lines.{refused_text};
 ghost use Rattle.selection.specs.Selection.{either_refusal, either_call};
 ghost use Rattle.selection.specs.Stream.{program_call};
 ghost use Rattle.report.specs.Report.{Reported, text_of, report_of};
 
 use output::Output;
 use preference::PreferenceList;
+use refusal::Refusal;
+
+// The line of a refusal.
+fn put_refusal(out: &mut Output<'_>, refusal: Refusal)
+    ensures { Writes out.old out.new (refused_text (number refusal)) }
+{
+    report_lines::put_refused(out, u64::from(refusal));
+}
 
 // The report on a list and a log.
 fn put_selected(out: &mut Output<'_>, list: PreferenceList, log: &[i32])
@@ -24,7 +34,7 @@ fn put_selected(out: &mut Output<'_>, list: PreferenceList, log: &[i32])
             report_lines::put_head(out, rows as u64, u64::from(best));
             report_lines::put_lines(out, log, &marks);
         }
-        Err(refusal) => report_lines::put_refused(out, u64::from(refusal)),
+        Err(refusal) => put_refusal(out, refusal),
     }
 }
 
@@ -36,7 +46,7 @@ fn put_report(out: &mut Output<'_>, stream: &[u8])
     let mut numbers = [0; limits::MAX_VALUES];
     match selection::read(stream, &mut numbers) {
         Ok(held) => put_selected(out, held.list, held.log(&numbers)),
-        Err(unread) => report_lines::put_refused(out, u64::from(unread)),
+        Err(unread) => put_refusal(out, unread),
     }
 }
 

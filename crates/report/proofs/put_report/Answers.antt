@@ -27,6 +27,6 @@ returns-in-Err c =
     let e = c.in-Err.ensures.refused in
     let k : number r ≡ (program_call s).refusal = then_err r _ _ e in
     record {
-      writes = rw (c.from.ensures, unread_text s r e) at c.put_refused.ensures;
+      writes = rw (unread_text s r e) at c.put_refusal.ensures;
       number_bound = omega (arith, k, number_small r);
     }

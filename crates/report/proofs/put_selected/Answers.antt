@@ -24,7 +24,6 @@ returns-in-Err c =
     let t = c.in-Err.ensures in
     record {
       writes =
-          rw (← refused_text_lem _ zeros _ _ t)
-          (rw c.from-in-Err.ensures at c.put_refused.ensures);
+          rw (← refused_text_lem _ zeros _ _ t) c.put_refusal.ensures;
       max_runs_bound = omega (arith, (refused_leaves _ zeros _ _ t).0, number_small c.in-Err.refusal);
     }
